@@ -1,0 +1,35 @@
+-- H1 to H12 hold: both sides of each row compute to the same.
+use mathlib.Core.Path.{refl}
+use Rattle.rule.specs.Bucket.{distance, larger, lesser, middle}
+use Rattle.rule.specs.Table.{cheaper, cheapest, choice, holding, holds, insert, lastEnd, limitOver, merge, mergeAt, mergeOf, readings, runs, runsAfter, settle, settleIn, accept, worst}
+use Rattle.rule.specs.Rules.{broken, equal, faultAt, firstFalse, firstFault, follows, isWhole, ruled, rules}
+use Rattle.rule.specs.Room.{allOf, allZero, clauses, flat, gapsBounded, gapsGood, laid, ranged, restZero, roomy, runsAllowed, slot, slotRanged, slots, sound, stepsGood, within, zeros}
+use Rattle.rule.specs.Bytes.{bits, bytes, saved, savedRecord}
+use Rattle.rule.specs.Calls.{admitted, gapsKept, isHeld, late, lateVerdict, nextVerdict, refuse, traced, writeVerdict, wrote}
+use Rattle.rule.specs.ByHand.{ByHand, feed, feedTo, feedLate, feedLateTo, leaves, saves, start, worstTo}
+
+pub by-hand : ByHand
+unfolding distance larger lesser middle cheaper cheapest choice holding holds insert lastEnd limitOver merge mergeAt mergeOf readings runs runsAfter settle settleIn accept worst broken equal faultAt firstFalse firstFault follows isWhole ruled rules allOf allZero clauses flat gapsBounded gapsGood laid ranged restZero roomy runsAllowed slot slotRanged slots sound stepsGood within zeros bits bytes saved savedRecord admitted gapsKept isHeld late lateVerdict nextVerdict refuse traced writeVerdict wrote feed feedTo feedLate feedLateTo leaves saves start worstTo
+by-hand =
+    record {
+      h1 = refl;
+      h1-worst = refl;
+      h2 = refl;
+      h3 = refl;
+      h4 = refl;
+      h5 = refl;
+      h5-worst = refl;
+      h6-level = refl;
+      h6-error = refl;
+      h7-level = refl;
+      h7-error = refl;
+      h8 = refl;
+      h8-worst = refl;
+      h9 = refl;
+      h10 = refl;
+      h10-number = refl;
+      h11 = refl;
+      h11-refused = refl;
+      h11-number = refl;
+      h12 = refl;
+    }

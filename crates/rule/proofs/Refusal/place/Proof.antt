@@ -1,0 +1,44 @@
+-- `rule::Refusal::place` meets its contract: a refusal that is not a record's has the place 0.
+use Prim.Native.Nat.{ℕ}
+use mathlib.Core.List.{List, [], _∷_}
+use mathlib.Core.Path.{_≡_, refl}
+use borrow.Author.Needs.{needs}
+use types.Run.{OneOf, miss}
+use denote.Enum.Declared.{tagOf}
+use Rattle.rule.specs.declared.Refusal.{Refusal}
+use Rattle.rule.specs.declared.Refusal.the-variants.{Steps, Gaps, Room, Unsound, Kind, Tick, Length, Record, Runs, Overfull, Taken, Absent, Short, Line}
+use Rattle.rule.specs.Answers.{place}
+use Rattle.rule.proofs.Refusal.{the-type}
+use Rattle.rule.proofs.Refusal.place.Statement.{statement}
+use Rattle.rule.proofs.Refusal.place.Tie as tie
+
+abbrev others : List ℕ
+others = 0 ∷ 1 ∷ 2 ∷ 3 ∷ 4 ∷ 5 ∷ 6 ∷ 8 ∷ 9 ∷ 10 ∷ 11 ∷ 12 ∷ 13 ∷ []
+
+none : (r : Refusal) → OneOf others (tagOf the-type r) → 0 ≡ place r
+none Steps k = refl
+none Gaps k = refl
+none Room k = refl
+none Unsound k = refl
+none Kind k = refl
+none Tick k = refl
+none Length k = refl
+none (Record i) k = absurd (miss others 7 tt k)
+none Runs k = refl
+none Overfull k = refl
+none Taken k = refl
+none Absent k = refl
+none Short k = refl
+none Line k = refl
+
+enum-known-self : tie.Need-enum-known-self
+enum-known-self c = search needs
+
+returns : tie.Need-returns
+returns c = search needs
+
+returns-2 : tie.Need-returns-2
+returns-2 c = none (c .before .args .self) (c .match .keys2)
+
+pub place-spec : {M : Type 1} → statement M
+place-spec = tie.close (tie.spec enum-known-self returns returns-2)

@@ -1,0 +1,52 @@
+-- Signed values as the machine has them: the bits of a width, read back as a whole number.
+use Prim.Native.Nat.{_+_, _≤_, _<_, _^_}
+use mathlib.Core.Path.{_≡_}
+use native.Mathlib.Omega.{arith}
+use native.Mathlib.Nat.{pow-suc, le-of-lt}
+use lib.Dec.{T, leb, ltb, ltb→lt, le→leb}
+use lib.Pow.{pow-mono}
+use lib.IntN.{ℤ, _+ℤ_, _-ℤ_}
+use lib.Signed.{mag}
+use borrow.Author.Needs.{sfits-of}
+use mir.Syntax.{Width}
+use mir.Val.{SFits, hbits, toZ, ofZ}
+use mir.Facts.{sfits-widen, toZ-ofZ}
+use Rattle.rule.proofs.Whole.{whole, sum, difference, one-side}
+
+-- z read from its bits, where its range is told by itself: of a field of a struct, of a call's result
+pub read : (w : Width) (z : ℤ) → mag z < 2 ^ hbits w → toZ w (ofZ w z) ≡ z
+read w z h = toZ-ofZ (sfits-of h)
+
+-- z, which the width w holds, taken to a width w′ as wide or wider, and back from there
+module _ {w : Width} (w′ : Width) {z : ℤ} (narrower : T (leb (hbits w) (hbits w′))) (fits : SFits w z) where
+  pub widens : SFits w′ (toZ w (ofZ w z))
+  widens = rw (toZ-ofZ fits) (sfits-widen narrower fits)
+
+  pub widened : toZ w′ (ofZ w′ (toZ w (ofZ w z))) ≡ z
+  widened = rw (toZ-ofZ fits) (toZ-ofZ (sfits-widen narrower fits))
+
+  pub narrows : SFits w (toZ w′ (ofZ w′ z))
+  narrows = rw (toZ-ofZ (sfits-widen narrower fits)) fits
+
+  pub narrowed : toZ w (ofZ w (toZ w′ (ofZ w′ z))) ≡ z
+  narrowed = rw (toZ-ofZ (sfits-widen narrower fits)) (toZ-ofZ fits)
+
+as-wide : (w w′ : Width) → T (ltb (hbits w) (hbits w′)) → T (leb (hbits w) (hbits w′))
+as-wide w w′ narrower = le→leb (hbits w) (hbits w′) (le-of-lt (ltb→lt (hbits w) (hbits w′) narrower))
+
+doubled : (w w′ : Width) → T (ltb (hbits w) (hbits w′)) → 2 ^ hbits w + 2 ^ hbits w ≤ 2 ^ hbits w′
+doubled w w′ narrower = omega (arith, pow-suc 2 (hbits w), pow-mono (ltb→lt (hbits w) (hbits w′) narrower))
+
+-- a and b of the width w, added or taken away in a wider one
+module _ {w : Width} (w′ : Width) {a b : ℤ} (narrower : T (ltb (hbits w) (hbits w′))) (fits-a : SFits w a) (fits-b : SFits w b) where
+  pub sum-fits : SFits w′ (a +ℤ b)
+  sum-fits = omega (whole, doubled w w′ narrower, sum a b, one-side (a +ℤ b))
+
+  pub difference-fits : SFits w′ (a -ℤ b)
+  difference-fits = omega (whole, doubled w w′ narrower, difference a b, one-side (a -ℤ b))
+
+  pub sum-held : toZ w′ (ofZ w′ (toZ w′ (ofZ w′ (toZ w (ofZ w a))) +ℤ toZ w′ (ofZ w′ (toZ w (ofZ w b))))) ≡ a +ℤ b
+  sum-held = rw (widened w′ (as-wide w w′ narrower) fits-a, widened w′ (as-wide w w′ narrower) fits-b) (toZ-ofZ sum-fits)
+
+  pub difference-held : toZ w′ (ofZ w′ (toZ w′ (ofZ w′ (toZ w (ofZ w a))) -ℤ toZ w′ (ofZ w′ (toZ w (ofZ w b))))) ≡ a -ℤ b
+  difference-held = rw (widened w′ (as-wide w w′ narrower) fits-a, widened w′ (as-wide w w′ narrower) fits-b) (toZ-ofZ difference-fits)

@@ -1,0 +1,111 @@
+-- The traces worked by hand in document 01, H1 to H12, as one table: what the calls answer and leave in a room of one number more than is needed.
+use Prim.Native.Nat.{ℕ, _*_, suc}
+use mathlib.Core.Path.{_≡_}
+use mathlib.Core.List.{List, [], _∷_, _++_, map}
+use lib.IntN.{ℤ, pos, negsuc}
+use lib.ListN.{replicate}
+use Rattle.rule.specs.declared.Bucket.{Bucket}
+use Rattle.rule.specs.declared.Kind.the-variants.{InOrder, Late}
+use Rattle.rule.specs.declared.Settings.{Settings}
+use Rattle.rule.specs.declared.State.{State}
+use Rattle.rule.specs.declared.Refusal.{Refusal}
+use Rattle.rule.specs.declared.Written.{Written}
+use Rattle.rule.specs.Numbers.{slotWidth}
+use Rattle.rule.specs.Answers.{number}
+use Rattle.rule.specs.Bucket.{level, error}
+use Rattle.rule.specs.Table.{Table, needed, worst}
+use Rattle.rule.specs.Room.{numbers, tableOf}
+use Rattle.rule.specs.Calls.{Verdict, refused, accepted, opened, nextOutcome, lateOutcome, saveOutcome}
+
+-- a trace between two calls: the last answer, and the room
+abbrev pub Now : Type 0
+Now = Verdict State × List ℤ
+
+-- a reading for a late trace
+abbrev pub Named : Type 0
+Named = ℕ × ℤ
+
+abbrev pub inOrder : ℕ → Settings
+inOrder b = record { kind = InOrder; steps = b; gaps = 0 }
+
+abbrev pub gappy : ℕ → ℕ → Settings
+gappy b k = record { kind = Late; steps = b; gaps = k }
+
+-- opened in a room of sevens
+unfoldable pub start : Settings → Now
+start s = opened s (replicate (suc (slotWidth * needed s)) (pos 7))
+
+-- the readings fed one by one; a refusal ends it
+unfoldable pub feedTo : List ℤ → Verdict State → List ℤ → Now
+feedTo [] v l = (v, l)
+feedTo (x ∷ xs) (refused r) l = (refused r, l)
+feedTo (x ∷ xs) (accepted s) l = feedTo xs (nextOutcome s l x .0) (nextOutcome s l x .1)
+
+unfoldable pub feed : List ℤ → Now → Now
+feed xs n = feedTo xs (n .0) (n .1)
+
+unfoldable pub feedLateTo : List Named → Verdict State → List ℤ → Now
+feedLateTo [] v l = (v, l)
+feedLateTo (x ∷ xs) (refused r) l = (refused r, l)
+feedLateTo (x ∷ xs) (accepted s) l = feedLateTo xs (lateOutcome s l (x .0) (x .1) .0) (lateOutcome s l (x .0) (x .1) .1)
+
+unfoldable pub feedLate : List Named → Now → Now
+feedLate xs n = feedLateTo xs (n .0) (n .1)
+
+-- accepted, with these buckets first, and so many slots behind them zeros, before the seven
+unfoldable pub leaves : Settings → Table → ℕ → ℕ → ℕ → ℕ → Now
+leaves s t used runs readings free =
+    (accepted (record { settings = s; used = used; runs = runs; readings = readings }), numbersOf t ++ (replicate (slotWidth * free) (pos 0) ++ (pos 7 ∷ [])))
+  where
+    numbersOf : Table → List ℤ
+    numbersOf [] = []
+    numbersOf (b ∷ t) = numbers b ++ numbersOf t
+
+abbrev pub bucket : ℕ → ℕ → ℤ → ℤ → Bucket
+bucket start count least largest = record { start = start; count = count; least = least; largest = largest }
+
+-- the greatest error of the buckets that a call left
+unfoldable pub worstTo : Verdict State → List ℤ → ℕ
+worstTo (refused r) l = 0
+worstTo (accepted s) l = worst (tableOf s l)
+
+abbrev pub worstOf : Now → ℕ
+worstOf n = worstTo (n .0) (n .1)
+
+unfoldable pub saves : Now → List ℕ → Written × List ℕ
+saves n out = savesTo (n .0)
+  where
+    savesTo : Verdict State → Written × List ℕ
+    savesTo (refused r) = (Written.Refused r, out)
+    savesTo (accepted s) = saveOutcome s (n .1) out
+
+-- the late trace of the listing, and it with one reading more
+abbrev pub listed : Now
+listed = leaves (gappy 1 2) (bucket 0 3 (pos 1) (pos 4) ∷ bucket 3 2 (pos 8) (pos 9) ∷ bucket 5 2 (pos 2) (pos 3) ∷ []) 3 1 7 2
+
+abbrev pub lengthened : Now
+lengthened =
+    leaves (gappy 1 2)
+    (bucket 0 3 (pos 1) (pos 4) ∷ bucket 3 2 (pos 8) (pos 9) ∷ bucket 5 2 (pos 2) (pos 3) ∷ bucket 8 1 (pos 0) (pos 0) ∷ []) 4 2 8 1
+
+pub record ByHand : Type 0 where
+  pub h1 : start (inOrder 1) ≡ leaves (inOrder 1) [] 0 0 0 3
+  pub h1-worst : worstOf (start (inOrder 1)) ≡ 0
+  pub h2 : feed (pos 1 ∷ pos 4 ∷ pos 2 ∷ pos 9 ∷ []) (start (inOrder 1)) ≡ leaves (inOrder 1) (bucket 0 3 (pos 1) (pos 4) ∷ bucket 3 1 (pos 9) (pos 9) ∷ []) 2 1 4 1
+  pub h3 : feed (pos 0 ∷ pos 1 ∷ pos 2 ∷ []) (start (inOrder 1)) ≡ leaves (inOrder 1) (bucket 0 2 (pos 0) (pos 1) ∷ bucket 2 1 (pos 2) (pos 2) ∷ []) 2 1 3 1
+  pub h4 : feed (pos 5 ∷ pos 5 ∷ pos 5 ∷ []) (start (inOrder 1)) ≡ leaves (inOrder 1) (bucket 0 2 (pos 5) (pos 5) ∷ bucket 2 1 (pos 5) (pos 5) ∷ []) 2 1 3 1
+  pub h5 : feed (pos 0 ∷ pos 5 ∷ pos 9 ∷ pos 14 ∷ pos 18 ∷ []) (start (inOrder 2)) ≡ leaves (inOrder 2) (bucket 0 1 (pos 0) (pos 0) ∷ bucket 1 2 (pos 5) (pos 9) ∷ bucket 3 1 (pos 14) (pos 14) ∷ bucket 4 1 (pos 18) (pos 18) ∷ []) 4 1 5 1
+  pub h5-worst : worstOf (feed (pos 0 ∷ pos 5 ∷ pos 9 ∷ pos 14 ∷ pos 18 ∷ []) (start (inOrder 2))) ≡ 2
+  pub h6-level : level (bucket 0 2 (negsuc 2) (pos 0)) ≡ negsuc 0
+  pub h6-error : error (bucket 0 2 (negsuc 2) (pos 0)) ≡ 2
+  pub h7-level : level (bucket 0 2 (negsuc 2147483647) (pos 2147483647)) ≡ pos 0
+  pub h7-error : error (bucket 0 2 (negsuc 2147483647) (pos 2147483647)) ≡ 2147483648
+  pub h8 : feedLate ((0, pos 1) ∷ (1, pos 4) ∷ (2, pos 2) ∷ (3, pos 9) ∷ (6, pos 2) ∷ (5, pos 3) ∷ (4, pos 8) ∷ []) (start (gappy 1 2)) ≡ listed
+  pub h8-worst : worstOf listed ≡ 2
+  pub h9 : feedLate ((0, pos 1) ∷ (2, pos 5) ∷ (1, pos 9) ∷ []) (start (gappy 1 2)) ≡ leaves (gappy 1 2) (bucket 0 1 (pos 1) (pos 1) ∷ bucket 1 1 (pos 9) (pos 9) ∷ bucket 2 1 (pos 5) (pos 5) ∷ []) 3 1 3 2
+  pub h10 : feedLate ((5, pos 7) ∷ []) listed ≡ (refused Refusal.Taken, listed .1)
+  pub h10-number : number Refusal.Taken ≡ 11
+  pub h11 : feedLate ((8, pos 0) ∷ []) listed ≡ lengthened
+  pub h11-refused : feedLate ((10, pos 0) ∷ []) lengthened ≡ (refused Refusal.Runs, lengthened .1)
+  pub h11-number : number Refusal.Runs ≡ 9
+  pub h12 : saves (feedLate ((3, negsuc 1) ∷ []) (start (gappy 1 1))) (replicate 17 7) ≡ (Written.Buckets 1, 3 ∷ 0 ∷ 0 ∷ 0 ∷ 1 ∷ 0 ∷ 0 ∷ 0 ∷ 254 ∷ 255 ∷ 255 ∷ 255 ∷ 254 ∷ 255 ∷ 255 ∷ 255 ∷ 7 ∷ [])

@@ -1,0 +1,162 @@
+-- What each call answers and leaves: the refusals first, in document 01's order, the first that holds being the one given.
+use Prim.Native.Nat.{ℕ, zero, suc, _+_, _*_, _-_, _%_, min}
+use mathlib.Core.Bool.{Bool, true, false, not}
+use mathlib.Core.List.{List, [], _++_}
+use mathlib.Core.Option.{Option, some, none}
+use lib.Dec.{eqb, leb, ltb}
+use lib.IntN.{ℤ}
+use lib.ListN.{length, drop}
+use Rattle.rule.specs.declared.Bucket.{Bucket}
+use Rattle.rule.specs.declared.Kind.{Kind}
+use Rattle.rule.specs.declared.Kind.the-variants.{InOrder, Late}
+use Rattle.rule.specs.declared.Settings.{Settings}
+use Rattle.rule.specs.declared.State.{State}
+use Rattle.rule.specs.declared.Refusal.{Refusal}
+use Rattle.rule.specs.declared.Found.{Found}
+use Rattle.rule.specs.declared.Written.{Written}
+use Rattle.rule.specs.declared.Tally.{Tally}
+use Rattle.rule.specs.Numbers.{ticks, recordWidth, tallyMost}
+use Rattle.rule.specs.Bucket.{level, error}
+use Rattle.rule.specs.Table.{Table, accept, holding, insert, limit, needed, nextTick, readings, runs, single}
+use Rattle.rule.specs.Rules.{Fault, whole, fault, firstFault}
+use Rattle.rule.specs.Room.{gapsGood, laid, roomy, runsAllowed, sound, stepsGood, tableOf}
+use Rattle.rule.specs.Bytes.{recordsOf, saved}
+
+-- ---- a refusal, or what was asked
+
+pub data Verdict (A : Type 0) : Type 0 where
+  refused : Refusal → Verdict A
+  accepted : A → Verdict A
+
+-- refuse where the test holds, else go on
+unfoldable pub refuse : {A : Type 0} → Bool → Refusal → Verdict A → Verdict A
+refuse true r v = refused r
+refuse false r v = v
+
+-- the state of a trace whose buckets are t
+abbrev pub stateOf : Settings → Table → State
+stateOf s t = record { settings = s; used = length t; runs = runs t; readings = readings t }
+
+-- the answer and the room afterwards, of a call that leaves the trace with the buckets t; a refusal leaves the room as it stood
+unfoldable pub traced : Settings → List ℤ → Verdict Table → Verdict State × List ℤ
+traced s l (refused r) = (refused r, l)
+traced s l (accepted t) = (accepted (stateOf s t), laid (needed s) t l)
+
+-- the answer and the output afterwards, of a call that writes what `form` makes of the buckets t; what lies past it is as it was
+unfoldable pub wrote : {A : Type 0} → (Table → List A) → List A → Verdict Table → Written × List A
+wrote form out (refused r) = (Written.Refused r, out)
+wrote form out (accepted t) = (Written.Buckets (length t), form t ++ drop (length (form t)) out)
+
+unfoldable pub late : Kind → Bool
+late InOrder = false
+late Late = true
+
+-- in order a given K is ignored and kept as 0
+unfoldable pub gapsKept : Kind → ℕ → ℕ
+gapsKept InOrder k = 0
+gapsKept Late k = k
+
+abbrev pub kept : Settings → Settings
+kept s = record { kind = s .kind; steps = s .steps; gaps = gapsKept (s .kind) (s .gaps) }
+
+-- ---- open: 1, 2, 3
+
+-- what open and load ask of settings and room, before they go on
+unfoldable pub admitted : Settings → List ℤ → Verdict Table → Verdict Table
+admitted s l v =
+    refuse (not (stepsGood s)) Refusal.Steps
+    (refuse (not (gapsGood (s .kind) (s .gaps))) Refusal.Gaps
+    (refuse (not (roomy s l)) Refusal.Room v))
+
+abbrev pub opened : Settings → List ℤ → Verdict State × List ℤ
+opened s l = traced (kept s) l (admitted (kept s) l (accepted []))
+
+-- ---- readings: 4, 5, 6, 11, 9
+
+unfoldable pub nextVerdict : State → List ℤ → ℤ → Verdict Table
+nextVerdict s l v =
+    refuse (not (sound s l)) Refusal.Unsound
+    (refuse (late (s .settings .kind)) Refusal.Kind
+    (refuse (leb ticks (nextTick (tableOf s l))) Refusal.Tick
+    (accepted (accept (s .settings) (tableOf s l) (nextTick (tableOf s l)) v))))
+
+abbrev pub nextOutcome : State → List ℤ → ℤ → Verdict State × List ℤ
+nextOutcome s l v = traced (s .settings) l (nextVerdict s l v)
+
+unfoldable pub isHeld : Option Bucket → Bool
+isHeld none = false
+isHeld (some b) = true
+
+unfoldable pub lateVerdict : State → List ℤ → ℕ → ℤ → Verdict Table
+lateVerdict s l tick v =
+    refuse (not (sound s l)) Refusal.Unsound
+    (refuse (not (late (s .settings .kind))) Refusal.Kind
+    (refuse (leb ticks tick) Refusal.Tick
+    (refuse (isHeld (holding tick (tableOf s l))) Refusal.Taken
+    (refuse (ltb (s .settings .gaps) (runs (insert (single tick v) (tableOf s l)))) Refusal.Runs
+    (accepted (accept (s .settings) (tableOf s l) tick v))))))
+
+abbrev pub lateOutcome : State → List ℤ → ℕ → ℤ → Verdict State × List ℤ
+lateOutcome s l tick v = traced (s .settings) l (lateVerdict s l tick v)
+
+-- ---- lookup: 4, 6, 12
+
+unfoldable pub found : Option Bucket → Found
+found none = Found.Refused Refusal.Absent
+found (some b) = Found.Level (level b) (error b) (b .least) (b .largest)
+
+unfoldable pub foundOf : Verdict (Option Bucket) → Found
+foundOf (refused r) = Found.Refused r
+foundOf (accepted b) = found b
+
+unfoldable pub lookupOutcome : State → List ℤ → ℕ → Found
+lookupOutcome s l tick =
+    foundOf
+    (refuse (not (sound s l)) Refusal.Unsound
+    (refuse (leb ticks tick) Refusal.Tick
+    (accepted (holding tick (tableOf s l)))))
+
+-- ---- row and save: 4, 13
+
+-- the output has `room` places, and the buckets take `taken`
+unfoldable pub writeVerdict : State → List ℤ → ℕ → ℕ → Verdict Table
+writeVerdict s l taken room =
+    refuse (not (sound s l)) Refusal.Unsound
+    (refuse (ltb room taken) Refusal.Short
+    (accepted (tableOf s l)))
+
+abbrev pub rowOutcome : State → List ℤ → List Bucket → Written × List Bucket
+rowOutcome s l out = wrote (λ t. t) out (writeVerdict s l (s .used) (length out))
+
+abbrev pub saveOutcome : State → List ℤ → List ℕ → Written × List ℕ
+saveOutcome s l out = wrote saved out (writeVerdict s l (recordWidth * s .used) (length out))
+
+-- ---- load: 1, 2, 3, 7, 8, 9, 10
+
+unfoldable pub refuseFault : {A : Type 0} → Fault → Verdict A → Verdict A
+refuseFault whole v = v
+refuseFault (fault i r) v = refused (Refusal.Record i)
+
+unfoldable pub loadVerdict : Settings → List ℕ → List ℤ → Verdict Table
+loadVerdict s file l =
+    admitted s l
+    (refuse (not (eqb (length file % recordWidth) 0)) Refusal.Length
+    (refuseFault (firstFault (s .kind) 0 0 (recordsOf file))
+    (refuse (not (runsAllowed (s .kind) (s .gaps) (runs (recordsOf file)))) Refusal.Runs
+    (refuse (ltb (limit s (runs (recordsOf file))) (length (recordsOf file))) Refusal.Overfull
+    (accepted (recordsOf file))))))
+
+abbrev pub loaded : Settings → List ℕ → List ℤ → Verdict State × List ℤ
+loaded s file l = traced (kept s) l (loadVerdict (kept s) file l)
+
+-- ---- the tally
+
+-- a count that has grown by n stops at the tally's most
+unfoldable pub grown : ℕ → ℕ → ℕ
+grown n by = min (n + by) tallyMost
+
+-- after a reading on a trace with so many slots in use before: its merges are those and the new bucket, less the slots in use after it
+unfoldable pub counted : Tally → ℕ → Verdict State → Tally
+counted t before (refused r) = record { accepted = t .accepted; refused = grown (t .refused) 1; merges = t .merges }
+counted t before (accepted s) =
+    record { accepted = grown (t .accepted) 1; refused = t .refused; merges = grown (t .merges) (before + 1 - s .used) }

@@ -1,0 +1,67 @@
+//! The second program's commands: the listing, the table of one bucket's arithmetic, the sample.
+
+use second::rule::Bucket;
+use second::{listing, sample};
+use std::fmt::Write as _;
+use std::io::{self, Write as _};
+use std::process::ExitCode;
+
+/// Readings at the ends of the range, about zero and between, odd and even.
+const VALUES: [i64; 13] = [
+    -2147483648,
+    -2147483647,
+    -1073741824,
+    -1001,
+    -3,
+    -2,
+    -1,
+    0,
+    1,
+    2,
+    1000,
+    2147483646,
+    2147483647,
+];
+
+fn main() -> ExitCode {
+    let output = match std::env::args().nth(1).as_deref() {
+        Some("list") => listing::list(io::stdin().lock()),
+        Some("buckets") => Ok(buckets().into_bytes()),
+        Some("sample") => Ok(sample::sample().into_bytes()),
+        _ => {
+            eprintln!("usage: second list | buckets | sample");
+            return ExitCode::from(2);
+        }
+    };
+    match output.and_then(|bytes| io::stdout().write_all(&bytes)) {
+        Ok(()) => ExitCode::SUCCESS,
+        Err(error) => {
+            eprintln!("second: {error}");
+            ExitCode::FAILURE
+        }
+    }
+}
+
+/// Least, largest, level, error and spread of each bucket whose ends are two of the values.
+fn buckets() -> String {
+    let mut lines = String::new();
+    for (index, &least) in VALUES.iter().enumerate() {
+        for &largest in &VALUES[index..] {
+            let bucket = Bucket {
+                start: 0,
+                count: 2,
+                least,
+                largest,
+            };
+            writeln!(
+                lines,
+                "{least} {largest} {} {} {}",
+                bucket.level(),
+                bucket.error(),
+                bucket.spread()
+            )
+            .expect("a string takes any text");
+        }
+    }
+    lines
+}

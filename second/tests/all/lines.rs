@@ -1,0 +1,159 @@
+//! The listing program's lines: what it reads, what it refuses, and where.
+
+use crate::support::{random_trace, Trace};
+use second::listing::list;
+use second::random::Random;
+use second::rule::{worst_error, Kind};
+
+fn listed(input: &str) -> String {
+    String::from_utf8(list(input.as_bytes()).unwrap()).unwrap()
+}
+
+fn listing_of(trace: &Trace) -> String {
+    let buckets = trace.buckets();
+    let mut lines = String::new();
+    for bucket in &buckets {
+        let level = (bucket.least + bucket.largest) / 2;
+        lines += &format!(
+            "{} {} {} {} {level}\n",
+            bucket.start, bucket.count, bucket.least, bucket.largest
+        );
+    }
+    let worst = worst_error(&buckets);
+    lines + &format!("total {} {} {worst}\n", trace.state.readings, buckets.len())
+}
+
+#[test]
+fn what_is_read() {
+    for (input, output) in [
+        ("", "total 0 0 0\n"),
+        ("steps 1\n", "total 0 0 0\n"),
+        ("late 1\n", "total 0 0 0\n"),
+        ("steps 256\nlate 256", "total 0 0 0\n"),
+        ("steps 0000000002\n7", "0 1 7 7 7\ntotal 1 1 0\n"),
+        ("7\n", "0 1 7 7 7\ntotal 1 1 0\n"),
+        ("-0\n", "0 1 0 0 0\ntotal 1 1 0\n"),
+        ("-0000000007", "0 1 -7 -7 -7\ntotal 1 1 0\n"),
+        ("late 1\n-0 5\n", "0 1 5 5 5\ntotal 1 1 0\n"),
+        (
+            "late 1\n-0000000000 -0000000007\n",
+            "0 1 -7 -7 -7\ntotal 1 1 0\n",
+        ),
+        ("late 1\n16777215 5\n", "16777215 1 5 5 5\ntotal 1 1 0\n"),
+        (
+            "steps 1\n-2147483648\n2147483647\n-2147483648\n",
+            "0 2 -2147483648 2147483647 0\n\
+             2 1 -2147483648 -2147483648 -2147483648\n\
+             total 3 2 2147483648\n",
+        ),
+    ] {
+        assert_eq!(listed(input), output, "{input:?}");
+    }
+}
+
+#[test]
+fn what_is_refused() {
+    for (input, output) in [
+        ("steps 0\n", "refused 1 1\n"),
+        ("steps -0\n", "refused 1 1\n"),
+        ("steps 257\nlate 300\n", "refused 1 1\n"),
+        ("steps 4294967295\n", "refused 1 1\n"),
+        ("steps 4294967296\n", "refused 1 14\n"),
+        ("steps -1\n", "refused 1 14\n"),
+        ("late 0\n", "refused 1 2\n"),
+        ("steps 1\nlate 300\nx\n", "refused 2 2\n"),
+        ("late 1\n16777216 0\n", "refused 2 6\n"),
+        ("late 1\n4294967295 0\n", "refused 2 6\n"),
+        ("late 1\n4294967296 0\n", "refused 2 14\n"),
+        ("late 1\n-1 0\n", "refused 2 14\n"),
+        ("late 1\n0 1\n2 1\n", "refused 3 9\n"),
+        ("late 1\n0 1\n0 1\n", "refused 3 11\n"),
+        ("late 1\n5\n", "refused 2 14\n"),
+        ("late 1\nlate 1\n", "refused 2 14\n"),
+        ("late 1\nsteps 1\n", "refused 2 14\n"),
+        ("steps 1\nsteps 1\n", "refused 2 14\n"),
+        ("5\nsteps 1\n", "refused 2 14\n"),
+        ("5\nlate 1\n", "refused 2 14\n"),
+        ("steps 1\n5\n0 5\n", "refused 3 14\n"),
+        ("\n", "refused 1 14\n"),
+        ("5\n\n", "refused 2 14\n"),
+        ("5\r\n", "refused 1 14\n"),
+        (" 5\n", "refused 1 14\n"),
+        ("5 \n", "refused 1 14\n"),
+        ("late 1\n0  5\n", "refused 2 14\n"),
+        ("late 1\n0 5 5\n", "refused 2 14\n"),
+        ("late 1\n0\t5\n", "refused 2 14\n"),
+        ("steps\n", "refused 1 14\n"),
+        ("steps \n", "refused 1 14\n"),
+        ("steps 1 1\n", "refused 1 14\n"),
+        ("Steps 1\n", "refused 1 14\n"),
+        ("-\n", "refused 1 14\n"),
+        ("--1\n", "refused 1 14\n"),
+        ("+1\n", "refused 1 14\n"),
+        ("1.0\n", "refused 1 14\n"),
+        ("00000000001\n", "refused 1 14\n"),
+        ("2147483647\n2147483648\n", "refused 2 14\n"),
+        ("-2147483648\n-2147483649\n", "refused 2 14\n"),
+        ("9999999999\n", "refused 1 14\n"),
+    ] {
+        assert_eq!(listed(input), output, "{input:?}");
+    }
+    assert_eq!(list(&b"1\n\xff\n"[..]).unwrap(), b"refused 2 14\n");
+    assert_eq!(list(&b"1\0\n"[..]).unwrap(), b"refused 1 14\n");
+}
+
+#[test]
+fn long_lines_are_refused_once() {
+    for length in [63, 64, 65, 66, 200, 100_000] {
+        let long = "1".repeat(length);
+        assert_eq!(listed(&format!("{long}\n5\n")), "refused 1 14\n");
+        assert_eq!(listed(&format!("5\n{long}")), "refused 2 14\n");
+    }
+}
+
+#[test]
+fn no_tick_is_left_after_the_last() {
+    let lines = String::from("steps 1\n") + &"0\n".repeat(16_777_216);
+    let all = list(lines.as_bytes()).unwrap();
+    assert!(all.ends_with(b"total 16777216 2 0\n"));
+    let one_more = list(format!("{lines}0\n").as_bytes()).unwrap();
+    assert_eq!(one_more, b"refused 16777218 6\n");
+}
+
+#[test]
+fn the_listing_shows_what_the_calls_keep() {
+    let mut random = Random::new(51);
+    for _ in 0..2_000 {
+        let settings = random_trace(&mut random).state;
+        let mut trace = Trace::open(settings.kind, settings.steps, settings.gaps);
+        let mut input = format!("steps {}\n", settings.steps);
+        if settings.kind == Kind::Late {
+            input += &format!("late {}\n", settings.gaps);
+        }
+        for line in 0..random.below(60) {
+            let value = random.between(-50, 50) as i32;
+            let tick = random.below(2_000) as u32;
+            match settings.kind {
+                Kind::InOrder => {
+                    trace.next(value).unwrap();
+                    input += &format!("{value}\n");
+                }
+                Kind::Late => {
+                    // Most ticks go up by one, so that runs grow and close.
+                    let tick = if line % 9 == 8 { tick } else { line as u32 };
+                    if trace.late(tick, value).is_ok() {
+                        input += &format!("{tick} {value}\n");
+                    }
+                }
+            }
+        }
+        assert_eq!(listed(&input), listing_of(&trace));
+    }
+}
+
+#[test]
+fn the_sample_shows_its_two_reading_drop() {
+    let output = listed(&second::sample::sample());
+    assert!(output.contains("\n1500 2 7383 7414 7398\n"));
+    assert!(output.ends_with("total 2400 64 18\n"));
+}

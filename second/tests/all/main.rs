@@ -1,0 +1,10 @@
+//! The tests of the second program.
+
+mod best_curve;
+mod hand;
+mod lines;
+mod refusals;
+mod round_trips;
+mod sound;
+mod support;
+mod wrong_ways;

@@ -1,5 +1,5 @@
 -- What the merge rule's functions do: the cheapest neighbours are neighbours of smallest spread, the lowest among equals, and exist wherever there are fewer runs than buckets.
-use Prim.Native.Nat.{ℕ, zero, suc, _+_, _≤_, _<_, min}
+use Prim.Native.Nat.{ℕ, zero, suc, _+_, _*_, _≤_, _<_, min}
 use mathlib.Core.Path.{_≡_, refl, sym, ap, _∙_, subst}
 use mathlib.Core.Bool.{Bool, true, false, cond, false≢true}
 use mathlib.Core.List.{List, [], _∷_, _++_}
@@ -7,13 +7,16 @@ use mathlib.Core.Logic.{_⊎_, inl, inr}
 use native.Mathlib.Omega.{arith}
 use borrow.Author.Tests.{leb-true, leb-false, le-leb, lt-leb}
 use lib.Dec.{leb, eqb}
+use lib.IntN.{ℤ}
 use lib.ListN.{length, length-append}
 use Rattle.rule.specs.declared.Bucket.{Bucket}
 use Rattle.rule.specs.Bucket.{end, neighbours, spread, union}
+use Rattle.rule.specs.declared.Kind.{Kind}
+use Rattle.rule.specs.declared.Kind.the-variants.{InOrder, Late}
 use Rattle.rule.specs.declared.Settings.{Settings}
-use Rattle.rule.specs.Table.{Table, Choice, nothing, pair, choice, cheaper, cheapest, limit, limitOver, merge, mergeAt, mergeOf, readings, runs, runsAfter, settle, settleIn}
+use Rattle.rule.specs.Table.{Table, Choice, Ordered, nothing, pair, accept, choice, cheaper, cheapest, holders, insert, limit, limitOver, merge, mergeAt, mergeOf, readings, runs, runsAfter, settle, settleIn, single}
 use Rattle.rule.proofs.Whole.{by-test, cond-ind}
-use Rattle.rule.proofs.Tables.{merged-length, merged-readings, merged-runs}
+use Rattle.rule.proofs.Tables.{held-once, heldBefore, insert-length, insert-runs, merged-length, merged-readings, merged-runs}
 
 -- two buckets side by side in a table
 pub record Beside (t : Table) : Type 0 where
@@ -165,9 +168,6 @@ merges t h = go (cheapest 0 t) (answers 0 t) refl
         }
 
 module _ (t : Table) (h : runs t < length t) where
-  these-of : Beside t
-  these-of = merges t h .these
-
   pub merge-length : length t ≡ suc (length (merge t))
   merge-length =
       let w = merges t h in
@@ -235,3 +235,32 @@ module _ (s : Settings) where
       let shorter : length t ≡ suc (length (merge t)) = merge-length t fewer in
       let same : limit s (runs (merge t)) ≡ limit s (runs t) = ap (limit s) (merge-runs t fewer) in
       omega (arith, ap length (settle-merges t e over), settle-length n (merge t) (omega arith) (still-enough t fewer e)))
+
+-- ---- how many merges a reading can ask for
+
+unfoldable pub mostMerges : Kind → ℕ
+mostMerges InOrder = 1
+mostMerges Late = 2
+
+held-before-once : (tick : ℕ) (t : Table) → Ordered 0 t → heldBefore tick t ≤ 1
+unfolding heldBefore
+held-before-once zero t o = omega arith
+held-before-once (suc tick) t o = held-once 0 tick t o
+
+lost-room : (kind : Kind) (base before after n : ℕ) → before ≤ after + 1 → n ≤ limitOver kind base before → suc n ≤ min (suc n) (limitOver kind base after) + mostMerges kind
+unfolding limitOver mostMerges
+lost-room InOrder base before after n h k = omega arith
+lost-room Late base before after n h k = omega arith
+
+-- on a table within its limit: one in order, two late
+pub few-merges : (s : Settings) (tick : ℕ) (v : ℤ) (t : Table) → Ordered 0 t → holders tick t ≡ 0 → length t ≤ limit s (runs t) → Enough s (insert (single tick v) t)
+    → suc (length t) ≤ length (accept s t tick v) + mostMerges (s .kind)
+unfolding accept
+few-merges s tick v t o free h enough =
+    let u : Table = insert (single tick v) t in
+    let longer : length u ≡ suc (length t) = insert-length (single tick v) t in
+    let settled : length (settle s u) ≡ min (length u) (limit s (runs u)) = settle-length s (length u) u (omega arith) enough in
+    let joins = insert-runs tick v t o free in
+    let last = held-once 0 (suc tick) t o in
+    let room = lost-room (s .kind) (2 * s .steps) (runs t) (runs u) (length t) (omega (arith, held-before-once tick t o)) h in
+    omega arith

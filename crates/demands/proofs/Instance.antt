@@ -1,0 +1,80 @@
+-- Document 01's own rule, with its lowest start and 2B, is one of the rules of which demand 3 is proved.
+use Prim.Native.Nat.{ℕ, zero, suc, _+_, _*_, _≤_, _<_}
+use mathlib.Core.Path.{sym, subst}
+use mathlib.Core.List.{List, [], _∷_}
+use native.Mathlib.Omega.{arith}
+use borrow.Author.Tests.{leb-true, leb-false}
+use lib.Dec.{leb}
+use lib.ListN.{length}
+use Rattle.rule.specs.declared.Kind.{Kind}
+use Rattle.rule.specs.declared.Kind.the-variants.{InOrder, Late}
+use Rattle.rule.specs.declared.Settings.{Settings}
+use Rattle.rule.specs.Table.{Table, accept, insert, limit, limitOver, merge, runs, settle, single, worst}
+use Rattle.rule.proofs.Whole.{by-test}
+use Rattle.rule.proofs.Merging as merging
+use Rattle.rule.proofs.Merging.{Enough, merge-length, merge-runs, settle-merges, settle-rests}
+use Rattle.demands.specs.Curve.{Curve, steps}
+use Rattle.demands.specs.History.{Accepted, Held, Merge, Reading, Settles, accepted, merges, opened, rests, tableAfter}
+use Rattle.demands.specs.Served.{Near, Served, Shown}
+use Rattle.demands.proofs.Demand3.{held-kept, served}
+use Rattle.demands.proofs.Kept.{Joined, reading-kept}
+
+merge-is : (t : Table) → runs t < length t → Merge t (merge t)
+merge-is t h =
+    let w = merging.merges t h in
+    record {
+      left = w .these .left;
+      first = w .these .first;
+      second = w .these .second;
+      right = w .these .right;
+      stands = w .these .stands;
+      leaves = w .leaves;
+      touching = w .these .touching;
+      cheapest = λ l a b r e g. w .smallest (record { left = l; first = a; second = b; right = r; stands = e; touching = g });
+    }
+
+-- the table after the merges, with how many they were
+abbrev Settled : Settings → Table → Type 0
+Settled s t = (k : ℕ) × Settles (s .kind) (2 * s .steps) t (settle s t) k
+
+rested : (s : Settings) (t : Table) → length t ≤ limit s (runs t) → Settled s t
+rested s t h = (0, subst (λ (u : Table). Settles (s .kind) (2 * s .steps) t u 0) (sym (settle-rests s t h)) (rests h))
+
+settles-in : (n : ℕ) (s : Settings) (t : Table) → length t ≤ n → Enough s t → Settled s t
+settles-in zero s t short enough = rested s t (omega arith)
+settles-in (suc n) s t short enough =
+    by-test (leb (length t) (limit s (runs t)))
+    (λ h. rested s t (leb-true (length t) (limit s (runs t)) h))
+    (λ h.
+    let over : limit s (runs t) < length t = leb-false (length t) (limit s (runs t)) h in
+    let fewer : runs t < length t = omega arith in
+    let rest = settles-in n s (merge t) (omega (arith, merge-length t fewer)) (rw (merge-runs t fewer) enough) in (
+      suc (rest .0),
+      subst (λ (u : Table). Settles (s .kind) (2 * s .steps) t u (suc (rest .0))) (sym (settle-merges s t enough over)) (merges over (merge-is t fewer) (rest .1)),
+    ))
+
+-- the limit leaves room for a bucket to each run
+enough-runs : (kind : Kind) (base runs : ℕ) → 1 ≤ base → Joined kind runs → runs ≤ limitOver kind base runs
+unfolding Joined limitOver
+enough-runs InOrder base runs h j = omega arith
+enough-runs Late base runs h j = omega arith
+
+pub instance-held : (s : Settings) (rs : List Reading) → 1 ≤ s .steps → Accepted s rs → (m : ℕ) × Held (s .kind) (2 * s .steps) rs (tableAfter s rs) m
+unfolding Accepted tableAfter accept
+instance-held s [] few a = (0, opened)
+instance-held s (r ∷ rs) few a =
+    let before = instance-held s rs few (a .1) in
+    let table : Table = insert (single (r .tick) (r .value)) (tableAfter s rs) in
+    let kept = reading-kept (s .kind) rs (tableAfter s rs) (held-kept (before .1)) r (a .0) in
+    let after = settles-in (length table) s table (omega arith) (enough-runs (s .kind) (2 * s .steps) (runs table) (omega arith) (kept .joined)) in
+    (after .0 + before .0, accepted r (before .1) (a .0) (after .1))
+
+pub demand3 : (s : Settings) (rs : List Reading) → 1 ≤ s .steps → Accepted s rs → (m : ℕ) × Served (s .kind) (2 * s .steps) rs (tableAfter s rs) m
+demand3 s rs few a =
+    let held = instance-held s rs few a in
+    (held .0, served (s .kind) (2 * s .steps) rs (tableAfter s rs) (held .0) (omega arith) (held .1))
+
+-- the picture is as near to the readings as any curve of at most B steps
+pub every-curve : (s : Settings) (rs : List Reading) → 1 ≤ s .steps → Accepted s rs
+    → (c : Curve) (E : ℕ) → steps c ≤ s .steps → Near E c rs → Shown E (tableAfter s rs) rs × (worst (tableAfter s rs) ≤ E)
+every-curve s rs few a c E h near = demand3 s rs few a .1 .picture c E (omega arith) near

@@ -4,4 +4,5 @@ pub mod Signed
 pub mod Errors
 pub mod Tables
 pub mod Merging
+pub mod Ruling
 pub mod ByHand

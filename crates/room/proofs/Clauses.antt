@@ -1,0 +1,60 @@
+-- Soundness as the code tests it, one list in its order, and how many slots a sound state can use.
+use Prim.Native.Nat.{ℕ, _+_, _*_, _≤_}
+use mathlib.Core.Path.{_≡_, sym, _∙_}
+use mathlib.Core.Bool.{Bool, true, false, and-assoc}
+use mathlib.Core.List.{List, [], _∷_}
+use native.Mathlib.Omega.{arith}
+use borrow.Author.Tests.{leb-true}
+use lib.Dec.{leb}
+use lib.IntN.{ℤ}
+use lib.ListN.{getD}
+use Rattle.rule.specs.declared.Kind.{Kind}
+use Rattle.rule.specs.declared.Kind.the-variants.{InOrder, Late}
+use Rattle.rule.specs.declared.State.{State}
+use Rattle.rule.specs.Numbers.{most}
+use Rattle.rule.specs.Room.{allOf, clauses, gapsBounded, gapsGood, restZero, roomy, runsAllowed, sound, stepsGood}
+use Rattle.rule.specs.Table.{limit, limitOver}
+use Rattle.rule.proofs.Ruling.{and-right}
+use Rattle.room.proofs.Tests.{fails}
+use Rattle.room.proofs.Scanning.{scanned}
+
+abbrev pub tests : State → List ℤ → List Bool
+tests s l =
+    leb 1 (s .settings .steps)
+    ∷ leb (s .settings .steps) most
+    ∷ gapsGood (s .settings .kind) (s .settings .gaps)
+    ∷ runsAllowed (s .settings .kind) (s .settings .gaps) (s .runs)
+    ∷ roomy (s .settings) l
+    ∷ leb (s .used) (limit (s .settings) (s .runs))
+    ∷ scanned (s .settings .kind) (s .runs) (s .readings) l (s .used)
+    ∷ restZero s l
+    ∷ []
+
+pub sound-tests : (s : State) (l : List ℤ) → sound s l ≡ allOf (tests s l)
+unfolding sound clauses stepsGood allOf
+sound-tests s l = simp and-assoc
+
+pub unsound : (s : State) (l : List ℤ) (i : ℕ) → getD (tests s l) i true ≡ false → false ≡ sound s l
+unsound s l i e = sym (sound-tests s l ∙ fails (tests s l) i e)
+
+-- ---- limits
+
+limit-most : (k : Kind) (base gaps : ℕ) → gapsGood k gaps ≡ true → limitOver k base gaps ≤ base + most
+unfolding gapsGood gapsBounded limitOver
+limit-most InOrder base gaps e = omega arith
+limit-most Late base gaps e = omega (arith, leb-true gaps most (and-right (leb 1 gaps) (leb gaps most) e))
+
+limit-grows : (k : Kind) (base gaps runs : ℕ) → runsAllowed k gaps runs ≡ true → limitOver k base runs ≤ limitOver k base gaps
+unfolding runsAllowed limitOver
+limit-grows InOrder base gaps runs e = omega arith
+limit-grows Late base gaps runs e = omega (arith, leb-true runs gaps e)
+
+pub record Limits (s : State) : Type 0 where
+  pub small : limit (s .settings) (s .settings .gaps) ≤ 768
+  pub grows : limit (s .settings) (s .runs) ≤ limit (s .settings) (s .settings .gaps)
+
+pub limits : (s : State) → s .settings .steps ≤ most → gapsGood (s .settings .kind) (s .settings .gaps) ≡ true
+    → runsAllowed (s .settings .kind) (s .settings .gaps) (s .runs) ≡ true → Limits s
+limits s h g r =
+    let t = s .settings in
+    record { small = omega (arith, limit-most (t .kind) (2 * t .steps) (t .gaps) g); grows = limit-grows (t .kind) (2 * t .steps) (t .gaps) (s .runs) r }

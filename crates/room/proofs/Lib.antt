@@ -1,0 +1,11 @@
+-- Laws that belong to no one function.
+pub mod Shifting
+pub mod Laying
+pub mod Reading
+pub mod Scoring
+pub mod Fitting
+pub mod Merges
+pub mod Tests
+pub mod Scanning
+pub mod Clauses
+pub mod Sounding

@@ -1,0 +1,71 @@
+--
+use Prim.Native.Nat.{_-_, _≤_}
+use mathlib.Core.Path.{_≡_, refl, sym, ap, _∙_}
+use native.Mathlib.Omega.{arith}
+use borrow.Author.Needs.{needs, sfits-of}
+use lib.Dec.{lit<}
+use lib.IntN.{pos}
+use lib.ListN.{getD, take, drop}
+use mir.Syntax.{w64}
+use mir.Val.{ofZ}
+use Rattle.rule.specs.Room.{allZero}
+use Rattle.room.proofs.Tests.{equal-other, equal-same, same-bits}
+use Rattle.room.proofs.Scanning.{zeros-next, zeros-none}
+use Rattle.room.proofs.check.all_zero.Statement.{statement}
+use Rattle.room.proofs.check.all_zero.Tie as tie
+
+abbrev Inv-loop : tie.InvT-loop
+Inv-loop room from to i₀ i = (i ≤ to) × (allZero (take (to - from) (drop from room)) ≡ allZero (take (to - i) (drop i room)))
+
+abbrev μ-loop : tie.MeasureT-loop
+μ-loop room from to i₀ i = to - i
+
+loop-holds : tie.Need-loop-holds Inv-loop μ-loop
+loop-holds c = (c .pre .0, refl)
+
+mul-if1 : tie.Need-mul-if1 Inv-loop μ-loop
+mul-if1 c = search needs
+
+shared-slice-copy-out-if1 : tie.Need-shared-slice-copy-out-if1 Inv-loop μ-loop
+shared-slice-copy-out-if1 c = omega (arith, c .before .before .pre .1)
+
+returns : tie.Need-returns Inv-loop μ-loop
+returns c =
+    let a = c .before .before .before .before .args in
+    let i = c .before .before .before .loop .i in
+    rw (
+      c .before .before .before .loop .inv .1,
+      zeros-next (a .room .now) i (a .to) (c .before .before .loop-test .taken) (c .before .before .before .before .pre .1),
+      equal-other (getD (a .room .now) i (pos 0)) (pos 0) (λ e. c .if1 .taken (ap (ofZ w64) e)),
+    )
+
+add-i : tie.Need-add-i Inv-loop μ-loop
+add-i c = omega arith
+
+loop-less : tie.Need-loop-less Inv-loop μ-loop
+loop-less c = omega arith
+
+loop-again : tie.Need-loop-again Inv-loop μ-loop
+loop-again c =
+    let a = c .before .before .before .before .args in
+    let i = c .before .before .before .loop .i in
+    let zero : getD (a .room .now) i (pos 0) ≡ pos 0 = same-bits w64 (sfits-of (c .before .if12 .given)) (sfits-of (lit< tt)) (c .if1 .left) in
+    (omega arith, c .before .before .before .loop .inv .1 ∙ rw (zeros-next (a .room .now) i (a .to) (c .before .before .loop-test .taken) (c .before .before .before .before .pre .1), equal-same _ (pos 0) zero))
+
+returns-2 : tie.Need-returns-2 Inv-loop μ-loop
+returns-2 c = let a = c .before .before .args in sym (c .before .loop .inv .1 ∙ zeros-none (a .room .now) (c .before .loop .i) (a .to) (c .loop-test .left))
+
+pub all-zero-spec : {M : Type 1} → statement M
+all-zero-spec =
+    tie.close
+    (tie.spec
+    Inv-loop
+    μ-loop
+    loop-holds
+    mul-if1
+    shared-slice-copy-out-if1
+    returns
+    add-i
+    loop-less
+    loop-again
+    returns-2)

@@ -1,0 +1,101 @@
+-- `room::check::scan` meets its contract. The invariant: what is left from slot `i` on, with what is counted, decides.
+use Prim.Native.Nat.{_-_}
+use mathlib.Core.Path.{sym, _∙_}
+use native.Mathlib.Omega.{arith}
+use borrow.Author.Needs.{needs}
+use borrow.Author.Tests.{eq-eqb, ne-eqb}
+use Rattle.room.proofs.Tests.{flipped}
+use Rattle.room.proofs.Scanning.{Scan, begins-bound, scan-breaks, scan-ends, scan-fails, scan-goes-on, scan-starts}
+use Rattle.room.proofs.check.scan.Statement.{statement}
+use Rattle.room.proofs.check.scan.Tie as tie
+
+abbrev Inv-loop : tie.InvT-loop
+Inv-loop kind used told-runs told-readings room runs₀ readings₀ end₀ i₀ runs readings end i = Scan kind told-runs told-readings room used runs readings end i
+
+abbrev μ-loop : tie.MeasureT-loop
+μ-loop kind used told-runs told-readings room runs₀ readings₀ end₀ i₀ runs readings end i = used - i
+
+first-run-requires : tie.Need-first-run-requires Inv-loop μ-loop
+first-run-requires c κs = c .pre .0
+
+loop-holds : tie.Need-loop-holds Inv-loop μ-loop
+loop-holds c =
+    let a = c .before .args in
+    scan-starts (a .kind) (a .told-runs) (a .told-readings) (a .room .now) (a .used) (c .first-run .result) (c .first-run .ensures .0) (c .first-run .ensures .1)
+
+slot-ranged-requires : tie.Need-slot-ranged-requires Inv-loop μ-loop
+slot-ranged-requires c κs = omega arith
+
+returns : tie.Need-returns Inv-loop μ-loop
+returns c = sym (scan-fails (c .before .before .before .loop .inv) (c .before .before .loop-test .taken) (flipped (c .before .slot-ranged .ensures) (c .if1 .taken)))
+
+read-requires : tie.Need-read-requires Inv-loop μ-loop
+read-requires c κs = (omega arith, flipped (c .before .slot-ranged .ensures) (c .if1 .left))
+
+meets-requires : tie.Need-meets-requires Inv-loop μ-loop
+meets-requires c κs = tt
+
+returns-2 : tie.Need-returns-2 Inv-loop μ-loop
+returns-2 c =
+    let read = c .before .before in
+    let turn = read .before .before .before in
+    sym (scan-breaks (turn .before .loop .inv) (turn .loop-test .taken) _ (read .read .ensures) (flipped (c .before .meets .ensures) (c .if2 .taken)))
+
+starts-run-requires : tie.Need-starts-run-requires Inv-loop μ-loop
+starts-run-requires c κs = tt
+
+add-runs : tie.Need-add-runs Inv-loop μ-loop
+add-runs c = omega (arith, begins-bound (c .before .before .before .before .before .before .before .loop .end) (c .before .before .before .read .result))
+
+cast-readings : tie.Need-cast-readings Inv-loop μ-loop
+cast-readings c = search needs
+
+add-readings : tie.Need-add-readings Inv-loop μ-loop
+add-readings c = omega arith
+
+end-requires : tie.Need-end-requires Inv-loop μ-loop
+end-requires c κs = tt
+
+add-i : tie.Need-add-i Inv-loop μ-loop
+add-i c = omega arith
+
+loop-less : tie.Need-loop-less Inv-loop μ-loop
+loop-less c = omega arith
+
+loop-again : tie.Need-loop-again Inv-loop μ-loop
+loop-again c =
+    let met = c .before .before .before in
+    let read = met .before .before in
+    let turn = read .before .before .before in
+    rw (c .before .before .starts-run .ensures, c .end .ensures)
+    (scan-goes-on (turn .before .loop .inv) (turn .loop-test .taken) _ (read .read .ensures) (flipped (read .before .before .slot-ranged .ensures) (read .before .if1 .left)) (flipped (met .before .meets .ensures) (met .if2 .left)) (omega arith))
+
+returns-3 : tie.Need-returns-3 Inv-loop μ-loop
+returns-3 c = sym (scan-ends (c .before .before .loop .inv) (c .before .loop-test .left) ∙ rw (eq-eqb (c .before .before .before .before .args .told-runs) (c .before .before .loop .runs) (c .if3 .taken)))
+
+returns-4 : tie.Need-returns-4 Inv-loop μ-loop
+returns-4 c = rw (scan-ends (c .before .before .loop .inv) (c .before .loop-test .left), ne-eqb (c .before .before .before .before .args .told-runs) (c .before .before .loop .runs) (c .if3 .left))
+
+pub scan-spec : {M : Type 1} → statement M
+scan-spec =
+    tie.close
+    (tie.spec
+    Inv-loop
+    μ-loop
+    first-run-requires
+    loop-holds
+    slot-ranged-requires
+    returns
+    read-requires
+    meets-requires
+    returns-2
+    starts-run-requires
+    add-runs
+    cast-readings
+    add-readings
+    end-requires
+    add-i
+    loop-less
+    loop-again
+    returns-3
+    returns-4)

@@ -1,0 +1,205 @@
+// The one pass that says whether state and room are sound, for any state fields and any numbers.
+ghost use mathlib.Core.Path.{_≡_};
+ghost use Prim.Native.Nat.{_+_, _*_, _-_, _<_, _≤_, _^_, suc};
+ghost use lib.ListN.{length, take, drop};
+ghost use Rattle.rule.specs.Numbers.{slotWidth};
+ghost use mathlib.Core.Bool.{_&&_, cond};
+ghost use lib.Dec.{eqb};
+ghost use Rattle.rule.specs.Rules.{follows, ruled, rules};
+ghost use Rattle.rule.specs.Room.{allOf, allZero, gapsGood, ranged, runsAllowed, signed, slotRanged, slots, sound, unsigned};
+ghost use Rattle.rule.specs.Table.{limit, readings, runs, runsAfter};
+use crate::slots::read;
+use rule::Bucket;
+use rule::Kind;
+use rule::Settings;
+use rule::State;
+
+pub(crate) fn unsigned(z: i64) -> bool
+    ensures { λ r. ⌜ r ≡ unsigned z ⌝ }
+{
+    0 <= z && z < 4294967296
+}
+
+pub(crate) fn signed(z: i64) -> bool
+    ensures { λ r. ⌜ r ≡ signed z ⌝ }
+{
+    -2147483648 <= z && z < 2147483648
+}
+
+// Every number of slot `at` lies in its field's range.
+pub(crate) fn slot_ranged(room: &[i64], at: usize) -> bool
+    requires { ⌜ slotWidth * suc at ≤ length (now room) ⌝ }
+    ensures { λ r. ⌜ r ≡ slotRanged (now (room .entry)) at ⌝ }
+{
+    let from = 4 * at;
+    if !unsigned(room[from]) {
+        return false;
+    }
+    if !unsigned(room[from + 1]) {
+        return false;
+    }
+    if !signed(room[from + 2]) {
+        return false;
+    }
+    signed(room[from + 3])
+}
+
+// The numbers from `from` up to `to` are zeros.
+pub(crate) fn all_zero(room: &[i64], from: usize, to: usize) -> bool
+    requires { ⌜ (from ≤ to) × (to ≤ length (now room)) ⌝ }
+    ensures { λ r. ⌜ r ≡ allZero (take (to - from) (drop from (now (room .entry)))) ⌝ }
+{
+    let mut i = from;
+    while i < to {
+        if room[i] != 0 {
+            return false;
+        }
+        i += 1;
+    }
+    true
+}
+
+// Where a record may start, the one before it ending at `end`.
+pub(crate) fn follows(kind: Kind, end: usize, b: Bucket) -> bool
+    ensures { λ r. ⌜ r ≡ follows kind end b ⌝ }
+{
+    match kind {
+        Kind::InOrder => b.start as usize == end,
+        Kind::Late => end <= b.start as usize,
+    }
+}
+
+// A bucket meets the record rules where the one before it ends at `end`.
+pub(crate) fn meets(kind: Kind, end: usize, b: Bucket) -> bool
+    ensures { λ r. ⌜ r ≡ allOf (rules kind end b) ⌝ }
+{
+    if b.count < 1 {
+        return false;
+    }
+    if 16777216 < b.end() {
+        return false;
+    }
+    if b.largest < b.least {
+        return false;
+    }
+    if b.count == 1 {
+        if b.least != b.largest {
+            return false;
+        }
+    }
+    follows(kind, end, b)
+}
+
+pub fn gaps_good(kind: Kind, gaps: usize) -> bool
+    ensures { λ r. ⌜ r ≡ gapsGood kind gaps ⌝ }
+{
+    match kind {
+        Kind::InOrder => gaps == 0,
+        Kind::Late => 1 <= gaps && gaps <= 256,
+    }
+}
+
+pub fn runs_allowed(kind: Kind, gaps: usize, runs: usize) -> bool
+    ensures { λ r. ⌜ r ≡ runsAllowed kind gaps runs ⌝ }
+{
+    match kind {
+        Kind::InOrder => true,
+        Kind::Late => runs <= gaps,
+    }
+}
+
+// 2B in order, 2B + k late.
+pub fn limit(s: Settings, runs: usize) -> usize
+    requires { ⌜ limit s runs < 2 ^ 32 ⌝ }
+    ensures { λ r. ⌜ r ≡ limit s runs ⌝ }
+{
+    let kind = s.kind;
+    match kind {
+        Kind::InOrder => 2 * s.steps,
+        Kind::Late => 2 * s.steps + runs,
+    }
+}
+
+// The one pass: every number of the first `used` slots in its range, every record within the rules, and the runs and readings as many as told.
+pub(crate) fn scan(
+    kind: Kind,
+    used: usize,
+    told_runs: usize,
+    told_readings: usize,
+    room: &[i64],
+) -> bool
+    requires { ⌜ (slotWidth * used ≤ length (now room)) × (used ≤ 1024) ⌝ }
+    ensures { λ r. ⌜ r ≡ ranged (now (room .entry)) 0 used && (ruled kind (slots (now (room .entry)) 0 used) && (eqb «told_runs» (runs (slots (now (room .entry)) 0 used)) && eqb «told_readings» (readings (slots (now (room .entry)) 0 used)))) ⌝ }
+{
+    let mut runs = first_run(used, room);
+    let mut readings = 0;
+    let mut end = 0;
+    let mut i = 0;
+    while i < used {
+        if !slot_ranged(room, i) {
+            return false;
+        }
+        let b = read(room, i);
+        if !meets(kind, end, b) {
+            return false;
+        }
+        runs += starts_run(end, b);
+        readings += b.count as usize;
+        end = b.end();
+        i += 1;
+    }
+    told_runs == runs && told_readings == readings
+}
+
+// 1 where the first slot in use starts at tick 0: `scan` counts a run where a bucket does not start at the end of the one before, and before the first that end is 0.
+pub(crate) fn first_run(used: usize, room: &[i64]) -> usize
+    requires { ⌜ slotWidth * used ≤ length (now room) ⌝ }
+    ensures { λ r. ⌜ runs (slots (now (room .entry)) 0 used) ≡ r + runsAfter 0 (slots (now (room .entry)) 0 used) ⌝ }
+    ensures { λ r. ⌜ r ≤ 1 ⌝ }
+{
+    if used == 0 {
+        return 0;
+    }
+    if room[0] == 0 {
+        return 1;
+    }
+    0
+}
+
+// 1 where the bucket begins a run, the one before it ending at `end`.
+pub(crate) fn starts_run(end: usize, b: Bucket) -> usize
+    ensures { λ r. ⌜ r ≡ cond (eqb «end» (b .start)) 0 1 ⌝ }
+{
+    if end == b.start as usize { 0 } else { 1 }
+}
+
+// State and room are sound.
+pub fn sound(s: State, room: &[i64]) -> bool
+    ensures { λ r. ⌜ r ≡ sound s (now (room .entry)) ⌝ }
+{
+    let settings = s.settings;
+    let kind = settings.kind;
+    if settings.steps < 1 {
+        return false;
+    }
+    if 256 < settings.steps {
+        return false;
+    }
+    if !gaps_good(kind, settings.gaps) {
+        return false;
+    }
+    if !runs_allowed(kind, settings.gaps, s.runs) {
+        return false;
+    }
+    let needed = limit(settings, settings.gaps) + 1;
+    if room.len() < 4 * needed {
+        return false;
+    }
+    if limit(settings, s.runs) < s.used {
+        return false;
+    }
+    if !scan(kind, s.used, s.runs, s.readings, room) {
+        return false;
+    }
+    all_zero(room, 4 * s.used, 4 * needed)
+}

@@ -5,6 +5,7 @@ pub mod Reading
 pub mod Scoring
 pub mod Fitting
 pub mod Merges
+pub mod Placing
 pub mod Tests
 pub mod Scanning
 pub mod Clauses

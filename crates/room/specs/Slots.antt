@@ -10,7 +10,7 @@ use Rattle.rule.specs.declared.Bucket.{Bucket}
 use Rattle.rule.specs.declared.Settings.{Settings}
 use Rattle.rule.specs.Numbers.{slotWidth, word}
 use Rattle.rule.specs.Room.{numbers, ranged, slots}
-use Rattle.rule.specs.Table.{Choice, Table, nothing, pair, limit, readings, runs}
+use Rattle.rule.specs.Table.{Choice, Ordered, Table, nothing, pair, limit, readings, runs}
 
 -- the first n slots are there, and every number in them lies in its field's range
 pub record Filled (l : List ℤ) (n : ℕ) : Type 0 where
@@ -43,3 +43,9 @@ pub record Settling (s : Settings) (k : ℕ) (l : List ℤ) (n : ℕ) : Type 0 w
   pub truth : k ≡ runs (slots l 0 n)
   pub enough : k ≤ limit s k
   pub small : limit s k < word
+
+-- the buckets of the first n slots are in order of ticks, and the tick's place among them is p
+pub record Placed (l : List ℤ) (n p tick : ℕ) : Type 0 where
+  pub filled : Filled l n
+  pub ordered : Ordered 0 (slots l 0 n)
+  pub place : p ≡ position tick (slots l 0 n)

@@ -141,7 +141,7 @@ unfoldable pub heldBefore : ℕ → Table → ℕ
 heldBefore zero t = 0
 heldBefore (suc tick) t = holders tick t
 
-before-none : (e tick : ℕ) (t : Table) → Ordered e t → tick ≤ e → heldBefore tick t ≡ 0
+pub before-none : (e tick : ℕ) (t : Table) → Ordered e t → tick ≤ e → heldBefore tick t ≡ 0
 unfolding heldBefore
 before-none e zero t o h = refl
 before-none e (suc tick) t o h = held-none e tick t o h
@@ -158,7 +158,7 @@ unless true = refl
 unless false = refl
 
 -- a bucket that does not hold a tick ends before it, where it starts before it
-ends-before : (tick : ℕ) (a : Bucket) → one (holds tick a) ≡ 0 → a .start ≤ tick → end a ≤ tick
+pub ends-before : (tick : ℕ) (a : Bucket) → one (holds tick a) ≡ 0 → a .start ≤ tick → end a ≤ tick
 ends-before tick a none h = omega (arith, holds-counts tick a, leb-counts (end a) tick, leb-counts (a .start) tick)
 
 starts-at : (tick : ℕ) (a : Bucket) → 1 ≤ a .count → tick ≤ a .start → one (holds tick a) ≡ one (eqb tick (a .start))

@@ -1,0 +1,100 @@
+-- The inner step of an accepted reading, over lists: what the insertion and the merges leave is the table after the reading, laid, and the trace is sound again.
+use Prim.Native.Nat.{ℕ, zero, suc, _+_, _*_, _-_, _≤_, _<_}
+use mathlib.Core.Path.{_≡_, refl, sym, ap, _∙_, subst}
+use mathlib.Core.Bool.{Bool, true, false}
+use mathlib.Core.List.{List, [], _∷_, _++_}
+use native.Mathlib.Omega.{arith}
+use native.Mathlib.Nat.{add-suc, zero-add}
+use lib.IntN.{ℤ}
+use lib.ListN.{length, take, drop}
+use lib.Seq.{take-all, drop-length}
+use mir.Syntax.{w32}
+use mir.Val.{SFits}
+use Rattle.rule.specs.declared.Bucket.{Bucket}
+use Rattle.rule.specs.declared.Kind.{Kind}
+use Rattle.rule.specs.declared.Kind.the-variants.{InOrder, Late}
+use Rattle.rule.specs.declared.Settings.{Settings}
+use Rattle.rule.specs.declared.State.{State}
+use Rattle.rule.specs.Bucket.{end}
+use Rattle.rule.specs.Calls.{stateOf}
+use Rattle.rule.specs.Numbers.{ticks, word}
+use Rattle.rule.specs.Room.{laid, runsAllowed, slot, slots, sound, tableOf}
+use Rattle.rule.specs.Rules.{ruled}
+use Rattle.rule.specs.Table.{Table, accept, insert, lastEnd, limit, needed, readings, runs, runsAfter, settle, single}
+use Rattle.rule.proofs.Merging.{settle-length, settle-readings, settle-runs}
+use Rattle.rule.proofs.Ruling.{Ruled, facts-ruled, in-order-runs, insert-last, next-ruled, ruled-facts}
+use Rattle.rule.proofs.Tables.{insert-length, insert-readings}
+use Rattle.room.specs.Slots.{Settling}
+use Rattle.room.proofs.Fitting.{Fitted, Fitting, fitted-insert, fitted-slots}
+use Rattle.room.proofs.Laying.{laid-laid, length-slots, slots-laid}
+use Rattle.room.proofs.Sounding.{Facts, enough, laid-needed, settled-sound, settling, sound-facts, sound-ordered, used-needed}
+use Rattle.trace.specs.Ready.{Ready, with}
+
+-- the last of n + 1 slots ends where the table ends
+last-end : (l : List ℤ) (e i n : ℕ) → lastEnd e (slots l i (suc n)) ≡ end (slot l (i + n))
+unfolding slots lastEnd
+last-end l e i zero = ap (λ (k : ℕ). end (slot l k)) (sym (native.Mathlib.Nat.add-zero i))
+last-end l e i (suc n) = last-end l (end (slot l i)) (suc i) n ∙ ap (λ (k : ℕ). end (slot l k)) (omega arith)
+
+pub last-slot : (l : List ℤ) (n : ℕ) → (n ≡ 0 → ⊥) → lastEnd 0 (slots l 0 n) ≡ end (slot l (n - 1))
+last-slot l n h =
+    let more : n ≡ suc (n - 1) = omega arith in
+    ap (λ (k : ℕ). lastEnd 0 (slots l 0 k)) more ∙ last-end l 0 0 (n - 1) ∙ ap (λ (k : ℕ). end (slot l k)) (zero-add (n - 1))
+
+-- the buckets with the new one at a place
+abbrev pub placed : State → List ℤ → ℕ → ℕ → ℤ → Table
+placed s l at tick v = take at (tableOf s l) ++ (single tick v ∷ drop at (tableOf s l))
+
+module _ (s : State) (l : List ℤ) (at k tick : ℕ) (v : ℤ) (r : Ready s l at k tick v) (fits : SFits w32 v) (small : tick < word) where
+  facts : Facts s l
+  facts = sound-facts s l (r .fit)
+
+  abbrev u : Table
+  u = with s l tick v
+
+  longer : length u ≡ suc (s .used)
+  longer = insert-length (single tick v) (tableOf s l) ∙ ap suc (length-slots l 0 (s .used))
+
+  fitted : Fitted u
+  fitted = fitted-insert (single tick v) (record { start = small; count = omega arith; least = fits; largest = fits }) (tableOf s l) (fitted-slots l 0 (s .used) (facts .ranges))
+
+  rules : Ruled (s .settings .kind) 0 u
+  unfolding ruled
+  rules = ruled-facts (s .settings .kind) 0 0 u (r .rules)
+
+  allowed : runsAllowed (s .settings .kind) (s .settings .gaps) (runs u) ≡ true
+  allowed = rw (← r .truth) (r .allowed)
+
+  -- the buckets that the merges find after the insertion
+  found : slots (laid (suc (s .used)) (placed s l at tick v) l) 0 (suc (s .used)) ≡ u
+  found =
+      ap (λ (t : Table). slots (laid (suc (s .used)) t l) 0 (suc (s .used))) (sym (r .place))
+      ∙ ap (slots (laid (suc (s .used)) u l) 0) (sym longer) ∙ slots-laid (suc (s .used)) u l
+
+  pub can-settle : Settling (s .settings) k (laid (suc (s .used)) (placed s l at tick v) l) (suc (s .used))
+  can-settle =
+      subst (λ (n : ℕ). Settling (s .settings) n (laid (suc (s .used)) (placed s l at tick v) l) (suc (s .used))) (sym (r .truth))
+      (subst (λ (t : Table). Settling (s .settings) (runs u) (laid (suc (s .used)) t l) (suc (s .used))) (r .place) (settling s l facts u longer fitted rules allowed))
+
+  -- the state and the room that are left
+  pub taken-state : stateOf (s .settings) (accept (s .settings) (tableOf s l) tick v) ≡ record { settings = s .settings; used = length (settle (s .settings) (slots (laid (suc (s .used)) (placed s l at tick v) l) 0 (suc (s .used)))); runs = k; readings = s .readings + 1 }
+  unfolding accept
+  taken-state =
+      let e = enough s l facts u longer fitted rules allowed in
+      let one-more : readings u ≡ 1 + readings (tableOf s l) = insert-readings (single tick v) (tableOf s l) in
+      λ i. record {
+        settings = s .settings;
+        used = ap (λ (t : Table). length (settle (s .settings) t)) (sym found) i;
+        runs = (settle-runs (s .settings) u e ∙ sym (r .truth)) i;
+        readings = more (settle-readings (s .settings) u e) one-more (facts .true-readings) i;
+      }
+    where
+      more : {a b c d : ℕ} → a ≡ b → b ≡ 1 + c → d ≡ c → a ≡ d + 1
+      more p q w = omega arith
+
+  pub taken-room : laid (suc (s .used)) (settle (s .settings) (slots (laid (suc (s .used)) (placed s l at tick v) l) 0 (suc (s .used)))) (laid (suc (s .used)) (placed s l at tick v) l) ≡ laid (needed (s .settings)) (accept (s .settings) (tableOf s l) tick v) l
+  unfolding accept
+  taken-room =
+      let w : Table = settle (s .settings) u in
+      let short : length w ≤ suc (s .used) = omega (arith, longer, settle-length (s .settings) (length u) u (omega arith) (enough s l facts u longer fitted rules allowed)) in
+      rw (found, ← r .place, laid-laid (suc (s .used)) u l (omega (arith, longer)) (suc (s .used)) w (omega arith)) (laid-needed s l facts w short)

@@ -1,0 +1,152 @@
+// What a caller calls: a trace in order or late over lent room. No public call here asks anything of its caller.
+ghost use mathlib.Core.Path.{_≡_};
+ghost use Rattle.rule.specs.Calls.{gapsKept, late, nextOutcome, opened, stateOf};
+ghost use Rattle.rule.specs.Room.{laid, slots, stepsGood, tableOf};
+ghost use Rattle.rule.specs.Table.{accept, needed, nextTick};
+ghost use Rattle.room.specs.Slots.{Filled};
+ghost use Rattle.trace.specs.Answers.{answered};
+ghost use Rattle.trace.specs.Ready.{Ready};
+use room::check::gaps_good;
+use room::check::limit;
+use room::check::sound;
+use room::moves::clear;
+use room::moves::insert;
+use room::slots::read;
+use room::steps::settle;
+use rule::Bucket;
+use rule::Kind;
+use rule::Refusal;
+use rule::Settings;
+use rule::State;
+
+// The trace's state, with its calls. Each hands the next one back.
+pub struct Trace {
+    pub state: State,
+}
+
+// What open and the two readings answer.
+pub enum Answer {
+    Accepted(Trace),
+    Refused(Refusal),
+}
+
+fn steps_good(s: Settings) -> bool
+    ensures { λ r. ⌜ r ≡ stepsGood s ⌝ }
+{
+    if s.steps < 1 { false } else { s.steps <= 256 }
+}
+
+fn gaps_kept(kind: Kind, gaps: usize) -> usize
+    ensures { λ r. ⌜ r ≡ gapsKept kind gaps ⌝ }
+{
+    match kind {
+        Kind::InOrder => 0,
+        Kind::Late => gaps,
+    }
+}
+
+fn is_late(kind: Kind) -> bool
+    ensures { λ r. ⌜ r ≡ late kind ⌝ }
+{
+    match kind {
+        Kind::InOrder => false,
+        Kind::Late => true,
+    }
+}
+
+// The end of the last bucket, 0 where there is none.
+fn next_tick(room: &[i64], used: usize) -> usize
+    requires { ⌜ Filled (now room) used ⌝ }
+    ensures { λ r. ⌜ r ≡ nextTick (slots (now (room .entry)) 0 used) ⌝ }
+{
+    if used == 0 {
+        return 0;
+    }
+    read(room, used - 1).end()
+}
+
+impl Trace {
+    // An empty trace in the needed slots of the room.
+    pub fn open(settings: Settings, room: &mut [i64]) -> Answer
+        ensures { λ r. ⌜ (r, now (room .exit)) ≡ answered (opened settings (now (room .entry))) ⌝ }
+    {
+        let kind = settings.kind;
+        let gaps = gaps_kept(kind, settings.gaps);
+        let s = Settings {
+            kind,
+            steps: settings.steps,
+            gaps,
+        };
+        if !steps_good(s) {
+            return Answer::Refused(Refusal::Steps);
+        }
+        if !gaps_good(kind, gaps) {
+            return Answer::Refused(Refusal::Gaps);
+        }
+        let end = 4 * (limit(s, gaps) + 1);
+        if room.len() < end {
+            return Answer::Refused(Refusal::Room);
+        }
+        clear(&mut *room, 0, end);
+        Answer::Accepted(Trace {
+            state: State {
+                settings: s,
+                used: 0,
+                runs: 0,
+                readings: 0,
+            },
+        })
+    }
+
+    // The reading goes to its place, then the cheapest neighbours are merged while the buckets are more than the limit.
+    pub(crate) fn accept(
+        mut self,
+        room: &mut [i64],
+        at: usize,
+        runs: usize,
+        tick: u32,
+        value: i32,
+    ) -> Trace
+        requires { ⌜ Ready (self .state) (now room) at runs tick value ⌝ }
+        ensures { λ r. ⌜ (r .state ≡ stateOf (self .state .settings) (accept (self .state .settings) (tableOf (self .state) (now (room .entry))) tick value)) × (now (room .exit) ≡ laid (needed (self .state .settings)) (accept (self .state .settings) (tableOf (self .state) (now (room .entry))) tick value) (now (room .entry))) ⌝ }
+    {
+        let s = self.state;
+        let settings = s.settings;
+        let b = Bucket {
+            start: tick,
+            count: 1,
+            least: value,
+            largest: value,
+        };
+        insert(&mut *room, s.used, at, b);
+        let used = settle(settings, runs, &mut *room, s.used + 1);
+        let state = State {
+            settings,
+            used,
+            runs,
+            readings: s.readings + 1,
+        };
+        self.state = state;
+        self
+    }
+
+    // The next reading of a trace in order.
+    pub fn next(self, room: &mut [i64], value: i32) -> Answer
+        ensures { λ r. ⌜ (r, now (room .exit)) ≡ answered (nextOutcome (self .state) (now (room .entry)) value) ⌝ }
+    {
+        let s = self.state;
+        if !sound(s, &*room) {
+            return Answer::Refused(Refusal::Unsound);
+        }
+        let settings = s.settings;
+        let kind = settings.kind;
+        if is_late(kind) {
+            return Answer::Refused(Refusal::Kind);
+        }
+        let tick = next_tick(&*room, s.used);
+        if 16777215 < tick {
+            return Answer::Refused(Refusal::Tick);
+        }
+        Answer::Accepted(self.accept(&mut *room, s.used, 1, tick as u32, value))
+    }
+}

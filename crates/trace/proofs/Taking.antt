@@ -98,3 +98,7 @@ module _ (s : State) (l : List ℤ) (at k tick : ℕ) (v : ℤ) (r : Ready s l a
       let w : Table = settle (s .settings) u in
       let short : length w ≤ suc (s .used) = omega (arith, longer, settle-length (s .settings) (length u) u (omega arith) (enough s l facts u longer fitted rules allowed)) in
       rw (found, ← r .place, laid-laid (suc (s .used)) u l (omega (arith, longer)) (suc (s .used)) w (omega arith)) (laid-needed s l facts w short)
+
+  pub taken-sound : sound (stateOf (s .settings) (accept (s .settings) (tableOf s l) tick v)) (laid (needed (s .settings)) (accept (s .settings) (tableOf s l) tick v) l) ≡ true
+  unfolding accept
+  taken-sound = settled-sound s l facts u longer fitted rules allowed

@@ -1,0 +1,92 @@
+-- An accepted open or reading leaves a sound trace.
+use Prim.Native.Nat.{ℕ, _*_, _<_}
+use mathlib.Core.Path.{_≡_, refl, sym, _∙_}
+use mathlib.Core.Bool.{Bool, true, false, not}
+use mathlib.Core.List.{List, []}
+use native.Mathlib.Omega.{arith}
+use borrow.Author.Tests.{leb-true, leb-false, not-false}
+use lib.Dec.{leb}
+use lib.IntN.{ℤ}
+use lib.ListN.{length}
+use mir.Syntax.{w32}
+use mir.Val.{SFits}
+use Rattle.rule.specs.declared.Kind.{Kind}
+use Rattle.rule.specs.declared.Kind.the-variants.{InOrder, Late}
+use Rattle.rule.specs.declared.Refusal.{Refusal}
+use Rattle.rule.specs.declared.Settings.{Settings}
+use Rattle.rule.specs.declared.State.{State}
+use Rattle.rule.specs.Calls.{Verdict, accepted, admitted, kept, late, nextOutcome, nextVerdict, opened, refuse, refused, stateOf, traced}
+use Rattle.rule.specs.Numbers.{ticks, word}
+use Rattle.rule.specs.Room.{gapsGood, laid, ranged, roomy, runsAllowed, slots, sound, stepsGood, tableOf}
+use Rattle.rule.specs.Table.{Table, accept, needed, nextTick, readings, runs}
+use Rattle.rule.proofs.Ruling.{Ruled}
+use Rattle.room.proofs.Laying.{length-laid}
+use Rattle.room.proofs.Sounding.{facts-sound, rest-laid}
+use Rattle.trace.specs.Left.{LeavesSound, LeftBy}
+use Rattle.trace.specs.Ready.{Ready}
+use Rattle.trace.proofs.Following.{next-ready}
+use Rattle.trace.proofs.Taking.{taken-sound}
+
+-- what holds of a refusal, and of the rest where the test fails, holds of both
+pub past-refusal : {A : Type 0} (P : Verdict A → Type 0) (c : Bool) (r : Refusal) (v : Verdict A) → P (refused r) → (c ≡ false → P v) → P (refuse c r v)
+unfolding refuse
+past-refusal P true r v p f = p
+past-refusal P false r v p f = f refl
+
+-- the outcome of a verdict leaves a sound trace
+abbrev pub Leaves : Settings → List ℤ → Verdict Table → Type 0
+Leaves s l v = LeavesSound (traced s l v)
+
+pub refused-leaves : (s : Settings) (l : List ℤ) (r : Refusal) → Leaves s l (refused r)
+unfolding traced LeftBy
+refused-leaves s l r = tt
+
+none-allowed : (k : Kind) (gaps : ℕ) → runsAllowed k gaps 0 ≡ true
+unfolding runsAllowed
+none-allowed InOrder gaps = refl
+none-allowed Late gaps = lib.Dec.leb·zero gaps
+
+-- what open and load ask, passed
+pub past-admission : (s : Settings) (l : List ℤ) (v : Verdict Table) → (stepsGood s ≡ true → gapsGood (s .kind) (s .gaps) ≡ true → roomy s l ≡ true → Leaves s l v) → Leaves s l (admitted s l v)
+unfolding admitted
+past-admission s l v f =
+    past-refusal (Leaves s l) (not (stepsGood s)) Refusal.Steps _ (refused-leaves s l Refusal.Steps)
+    (λ a. past-refusal (Leaves s l) (not (gapsGood (s .kind) (s .gaps))) Refusal.Gaps _ (refused-leaves s l Refusal.Gaps)
+    (λ b. past-refusal (Leaves s l) (not (roomy s l)) Refusal.Room v (refused-leaves s l Refusal.Room)
+    (λ c. f (not-false _ a) (not-false _ b) (not-false _ c))))
+
+empty-leaves : (s : Settings) (l : List ℤ) → stepsGood s ≡ true → gapsGood (s .kind) (s .gaps) ≡ true → roomy s l ≡ true → Leaves s l (accepted [])
+unfolding traced LeftBy roomy ranged slots runs readings Ruled
+empty-leaves s l a b c =
+    let long = leb-true (4 * needed s) (length l) c in
+    facts-sound (stateOf s []) (laid (needed s) [] l)
+    (record {
+      steps-good = a;
+      gaps-good = b;
+      allowed = none-allowed (s .kind) (s .gaps);
+      long = omega (arith, length-laid (needed s) [] l (omega arith) long);
+      few = omega arith;
+      ranges = refl;
+      rules = tt;
+      true-runs = refl;
+      true-readings = refl;
+      rest = rest-laid s [] l;
+    })
+
+pub open-leaves : (s : Settings) (l : List ℤ) → LeavesSound (opened s l)
+open-leaves s l = past-admission (kept s) l (accepted []) (empty-leaves (kept s) l)
+
+-- a reading that is ready to be taken leaves a sound trace
+pub taken-leaves : (s : State) (l : List ℤ) (at k tick : ℕ) (v : ℤ) → Ready s l at k tick v → SFits w32 v → tick < word → Leaves (s .settings) l (accepted (accept (s .settings) (tableOf s l) tick v))
+unfolding traced LeftBy
+taken-leaves s l at k tick v r fits small = taken-sound s l at k tick v r fits small
+
+pub next-leaves : (s : State) (l : List ℤ) (v : ℤ) → SFits w32 v → LeavesSound (nextOutcome s l v)
+unfolding nextVerdict
+next-leaves s l v fits =
+    past-refusal (Leaves (s .settings) l) (not (sound s l)) Refusal.Unsound _ (refused-leaves (s .settings) l Refusal.Unsound)
+    (λ a. past-refusal (Leaves (s .settings) l) (late (s .settings .kind)) Refusal.Kind _ (refused-leaves (s .settings) l Refusal.Kind)
+    (λ b. past-refusal (Leaves (s .settings) l) (leb ticks (nextTick (tableOf s l))) Refusal.Tick _ (refused-leaves (s .settings) l Refusal.Tick)
+    (λ c.
+    let inside : nextTick (tableOf s l) < ticks = leb-false ticks (nextTick (tableOf s l)) c in
+    taken-leaves s l (s .used) 1 (nextTick (tableOf s l)) v (next-ready s l v (not-false _ a) b inside) fits (omega arith))))

@@ -4,8 +4,8 @@ use mathlib.Core.Path.{_≡_, refl, sym, _∙_}
 use mathlib.Core.Bool.{Bool, true, false, not}
 use mathlib.Core.List.{List, []}
 use native.Mathlib.Omega.{arith}
-use borrow.Author.Tests.{leb-true, leb-false, not-false}
-use lib.Dec.{leb}
+use borrow.Author.Tests.{leb-true, leb-false, ltb-false, not-false}
+use lib.Dec.{leb, ltb}
 use lib.IntN.{ℤ}
 use lib.ListN.{length}
 use mir.Syntax.{w32}
@@ -15,15 +15,17 @@ use Rattle.rule.specs.declared.Kind.the-variants.{InOrder, Late}
 use Rattle.rule.specs.declared.Refusal.{Refusal}
 use Rattle.rule.specs.declared.Settings.{Settings}
 use Rattle.rule.specs.declared.State.{State}
-use Rattle.rule.specs.Calls.{Verdict, accepted, admitted, kept, late, nextOutcome, nextVerdict, opened, refuse, refused, stateOf, traced}
+use Rattle.rule.specs.Calls.{Verdict, accepted, admitted, isHeld, kept, late, lateOutcome, lateVerdict, nextOutcome, nextVerdict, opened, refuse, refused, stateOf, traced}
 use Rattle.rule.specs.Numbers.{ticks, word}
 use Rattle.rule.specs.Room.{gapsGood, laid, ranged, roomy, runsAllowed, slots, sound, stepsGood, tableOf}
-use Rattle.rule.specs.Table.{Table, accept, needed, nextTick, readings, runs}
+use Rattle.rule.specs.Table.{Table, accept, holding, needed, nextTick, readings, runs}
 use Rattle.rule.proofs.Ruling.{Ruled}
+use Rattle.room.specs.Slots.{position}
 use Rattle.room.proofs.Laying.{length-laid}
 use Rattle.room.proofs.Sounding.{facts-sound, rest-laid}
 use Rattle.trace.specs.Left.{LeavesSound, LeftBy}
-use Rattle.trace.specs.Ready.{Ready}
+use Rattle.trace.specs.Ready.{Ready, with}
+use Rattle.trace.proofs.Arriving.{Passed, late-ready}
 use Rattle.trace.proofs.Following.{next-ready}
 use Rattle.trace.proofs.Taking.{taken-sound}
 
@@ -90,3 +92,16 @@ next-leaves s l v fits =
     (λ c.
     let inside : nextTick (tableOf s l) < ticks = leb-false ticks (nextTick (tableOf s l)) c in
     taken-leaves s l (s .used) 1 (nextTick (tableOf s l)) v (next-ready s l v (not-false _ a) b inside) fits (omega arith))))
+
+pub late-leaves : (s : State) (l : List ℤ) (tick : ℕ) (v : ℤ) → SFits w32 v → LeavesSound (lateOutcome s l tick v)
+unfolding lateVerdict
+late-leaves s l tick v fits =
+    past-refusal (Leaves (s .settings) l) (not (sound s l)) Refusal.Unsound _ (refused-leaves (s .settings) l Refusal.Unsound)
+    (λ a. past-refusal (Leaves (s .settings) l) (not (late (s .settings .kind))) Refusal.Kind _ (refused-leaves (s .settings) l Refusal.Kind)
+    (λ b. past-refusal (Leaves (s .settings) l) (leb ticks tick) Refusal.Tick _ (refused-leaves (s .settings) l Refusal.Tick)
+    (λ c. past-refusal (Leaves (s .settings) l) (isHeld (holding tick (tableOf s l))) Refusal.Taken _ (refused-leaves (s .settings) l Refusal.Taken)
+    (λ free. past-refusal (Leaves (s .settings) l) (ltb (s .settings .gaps) (runs (with s l tick v))) Refusal.Runs _ (refused-leaves (s .settings) l Refusal.Runs)
+    (λ few.
+    let inside : tick < ticks = leb-false ticks tick c in
+    let p : Passed s l tick = record { fit = not-false _ a; kind = not-false _ b; small = inside } in
+    taken-leaves s l (position tick (tableOf s l)) (runs (with s l tick v)) tick v (late-ready p free refl refl (ltb-false (s .settings .gaps) (runs (with s l tick v)) few)) fits (omega arith))))))

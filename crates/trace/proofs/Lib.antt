@@ -1,4 +1,6 @@
 -- Laws that belong to no one function.
 pub mod Taking
 pub mod Following
+pub mod Arriving
+pub mod Finding
 pub mod Leaving

@@ -1,6 +1,7 @@
 // What a caller calls: a trace in order or late over lent room. No public call here asks anything of its caller.
+ghost use mathlib.Core.Option.{some};
 ghost use mathlib.Core.Path.{_≡_};
-ghost use Rattle.rule.specs.Calls.{gapsKept, late, nextOutcome, opened, stateOf};
+ghost use Rattle.rule.specs.Calls.{found, gapsKept, late, lateOutcome, lookupOutcome, nextOutcome, opened, stateOf};
 ghost use Rattle.rule.specs.Room.{laid, slots, stepsGood, tableOf};
 ghost use Rattle.rule.specs.Table.{accept, needed, nextTick};
 ghost use Rattle.room.specs.Slots.{Filled};
@@ -12,8 +13,12 @@ use room::check::sound;
 use room::moves::clear;
 use room::moves::insert;
 use room::slots::read;
+use room::steps::find;
+use room::steps::held;
+use room::steps::joins;
 use room::steps::settle;
 use rule::Bucket;
+use rule::Found;
 use rule::Kind;
 use rule::Refusal;
 use rule::Settings;
@@ -63,6 +68,17 @@ fn next_tick(room: &[i64], used: usize) -> usize
         return 0;
     }
     read(room, used - 1).end()
+}
+
+fn found_in(b: Bucket) -> Found
+    ensures { λ r. ⌜ r ≡ found (some b) ⌝ }
+{
+    Found::Level {
+        level: b.level(),
+        error: b.error(),
+        least: b.least,
+        largest: b.largest,
+    }
 }
 
 impl Trace {
@@ -148,5 +164,50 @@ impl Trace {
             return Answer::Refused(Refusal::Tick);
         }
         Answer::Accepted(self.accept(&mut *room, s.used, 1, tick as u32, value))
+    }
+
+    // A reading at its tick, in any order, of a late trace.
+    pub fn late(self, room: &mut [i64], tick: u32, value: i32) -> Answer
+        ensures { λ r. ⌜ (r, now (room .exit)) ≡ answered (lateOutcome (self .state) (now (room .entry)) tick value) ⌝ }
+    {
+        let s = self.state;
+        if !sound(s, &*room) {
+            return Answer::Refused(Refusal::Unsound);
+        }
+        let settings = s.settings;
+        let kind = settings.kind;
+        if !is_late(kind) {
+            return Answer::Refused(Refusal::Kind);
+        }
+        if 16777215 < tick {
+            return Answer::Refused(Refusal::Tick);
+        }
+        let at = find(&*room, s.used, tick);
+        if held(&*room, at, tick) {
+            return Answer::Refused(Refusal::Taken);
+        }
+        let runs = s.runs + 1 - joins(&*room, s.used, at, tick);
+        if settings.gaps < runs {
+            return Answer::Refused(Refusal::Runs);
+        }
+        Answer::Accepted(self.accept(&mut *room, at, runs, tick, value))
+    }
+
+    // The holding bucket's level, error, least and largest.
+    pub fn lookup(self, room: &[i64], tick: u32) -> Found
+        ensures { λ r. ⌜ r ≡ lookupOutcome (self .state) (now (room .entry)) tick ⌝ }
+    {
+        let s = self.state;
+        if !sound(s, room) {
+            return Found::Refused(Refusal::Unsound);
+        }
+        if 16777215 < tick {
+            return Found::Refused(Refusal::Tick);
+        }
+        let at = find(room, s.used, tick);
+        if !held(room, at, tick) {
+            return Found::Refused(Refusal::Absent);
+        }
+        found_in(read(room, at - 1))
     }
 }

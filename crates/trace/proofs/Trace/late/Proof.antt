@@ -1,0 +1,159 @@
+-- `trace::Trace::late` meets its contract: each return is its case of the outcome.
+use borrow.Author.Needs.{needs}
+use borrow.Author.Tests.{le-leb, le-ltb, lt-leb, lt-ltb}
+use native.Mathlib.Omega.{arith}
+use Prim.Native.Nat.{_+_, _-_}
+use mathlib.Core.Path.{_≡_, sym, _∙_}
+use mathlib.Core.Bool.{true, false}
+use lib.IntN.{ℤ}
+use mir.Facts.{toZ-ofZ}
+use Rattle.rule.specs.Calls.{isHeld, late, lateVerdict, refuse, traced}
+use Rattle.rule.specs.Numbers.{ticks}
+use Rattle.rule.specs.Room.{sound, tableOf}
+use Rattle.rule.specs.Table.{holding, runs}
+use Rattle.room.specs.Slots.{Placed}
+use Rattle.room.proofs.Placing.{filled-before}
+use Rattle.room.proofs.Tests.{flipped}
+use Rattle.trace.specs.declared.Answer.the-variants.{Accepted}
+use Rattle.trace.specs.Answers.{answer}
+use Rattle.trace.specs.Ready.{with}
+use Rattle.trace.proofs.Arriving.{Passed, late-filled, late-free, late-joins, late-left, late-placed, late-ready, late-runs, late-truth}
+use Rattle.trace.proofs.Trace.late.Statement.{statement}
+use Rattle.trace.proofs.Trace.late.Tie as tie
+
+-- what each test that was passed says
+whole : (c : tie.Else1) → sound (c .before .before .before .before .args .self .state) (c .before .before .before .before .args .room .now) ≡ true
+whole c = flipped (c .before .sound .ensures) (c .if1 .left)
+
+is-late : (c : tie.Else2) → late (c .before .before .before .before .before .before .before .args .self .state .settings .kind) ≡ true
+is-late c = flipped (c .before .is-late .ensures) (c .if2 .left)
+
+abbrev start : tie.Else3 → tie.Start
+start c = c .before .before .before .before .before .before .before .before
+
+passed : (c : tie.Else3) → Passed (start c .args .self .state) (start c .args .room .now) (start c .args .tick)
+passed c = record { fit = whole (c .before .before .before .before); kind = is-late (c .before); small = omega (arith, c .if3 .left) }
+
+placed : (c : tie.After-find) → Placed (start (c .before .before) .args .room .now) (start (c .before .before) .args .self .state .used) (c .find .result) (start (c .before .before) .args .tick)
+placed c = late-placed (passed (c .before .before)) (c .find .ensures)
+
+abbrev sought : tie.Else4 → tie.Else3
+sought c = c .before .before .before .before .before
+
+free : (c : tie.Else4) → isHeld (holding (start (sought c) .args .tick) (tableOf (start (sought c) .args .self .state) (start (sought c) .args .room .now))) ≡ false
+free c = sym (c .before .held .ensures (start (sought c) .args .self .state .used) (placed (c .before .before .before))) ∙ c .if4 .left
+
+abbrev unheld : tie.After-joins → tie.Else4
+unheld c = c .before .before .before
+
+abbrev origin : tie.After-joins → tie.Start
+origin c = start (sought (unheld c))
+
+truth : (c : tie.After-joins) → origin c .args .self .state .runs + 1 - c .joins .result ≡ runs (with (origin c .args .self .state) (origin c .args .room .now) (origin c .args .tick) (origin c .args .value))
+truth c = late-truth (passed (sought (unheld c))) (c .joins .result) (c .joins .ensures) (origin c .args .value)
+
+sound-requires : tie.Need-sound-requires
+sound-requires c κs = search needs
+
+same-length : tie.Need-same-length
+same-length c = search needs
+
+returns : tie.Need-returns
+unfolding lateVerdict refuse traced answer
+returns c = rw (flipped (c .before .sound .ensures) (c .if1 .taken))
+
+is-late-requires : tie.Need-is-late-requires
+is-late-requires c κs = search needs
+
+same-length-2 : tie.Need-same-length-2
+same-length-2 c = search needs
+
+returns-2 : tie.Need-returns-2
+unfolding lateVerdict refuse traced answer
+returns-2 c = rw (whole (c .before .before .before), flipped (c .before .is-late .ensures) (c .if2 .taken))
+
+same-length-3 : tie.Need-same-length-3
+same-length-3 c = search needs
+
+returns-3 : tie.Need-returns-3
+unfolding lateVerdict refuse traced answer
+returns-3 c = rw (whole (c .before .before .before .before), is-late (c .before), le-leb ticks _ (c .if3 .taken))
+
+find-requires : tie.Need-find-requires
+find-requires c κs = late-filled (passed (c .before))
+
+held-requires : tie.Need-held-requires
+held-requires c κs = filled-before (placed (c .before))
+
+same-length-4 : tie.Need-same-length-4
+same-length-4 c = search needs
+
+returns-4 : tie.Need-returns-4
+unfolding lateVerdict refuse traced answer
+returns-4 c =
+    let at = c .before .before .before in
+    let p = passed (at .before .before) in
+    rw (p .fit, p .kind, lt-leb ticks _ (p .small), sym (c .before .held .ensures _ (placed at)) ∙ c .if4 .taken)
+
+add-runs : tie.Need-add-runs
+add-runs c = omega (arith, late-runs (passed (sought (c .before))))
+
+joins-requires : tie.Need-joins-requires
+joins-requires c κs = let four = c .before .before in (placed (four .before .before .before), late-free (passed (sought four)) (free four))
+
+sub-runs : tie.Need-sub-runs
+sub-runs c = late-joins (passed (sought (unheld c))) (c .joins .result) (c .joins .ensures) (origin c .args .value)
+
+same-length-5 : tie.Need-same-length-5
+same-length-5 c = search needs
+
+returns-5 : tie.Need-returns-5
+unfolding refuse traced answer
+returns-5 c =
+    let j = c .before .before in
+    let four = unheld j in
+    rw (late-left (passed (sought four)) (free four) (origin j .args .value), ← truth j, lt-ltb _ _ (c .if5 .taken))
+
+accept-requires : tie.Need-accept-requires
+accept-requires c κs =
+    let j = c .before .before .before in
+    let four = unheld j in
+    rw (toZ-ofZ (origin j .fits .value))
+    (late-ready (passed (sought four)) (free four) (four .before .before .before .find .ensures) (truth j) (c .before .if5 .left))
+
+same-length-6 : tie.Need-same-length-6
+same-length-6 c = search needs
+
+returns-6 : tie.Need-returns-6
+unfolding refuse traced answer
+returns-6 c =
+    let j = c .before .before .before .before .before in
+    let four = unheld j in
+    let taken = rw (toZ-ofZ (origin j .fits .value)) at (c .before .accept .ensures) in
+    rw (late-left (passed (sought four)) (free four) (origin j .args .value), ← truth j, le-ltb _ _ (c .before .before .before .if5 .left))
+    (λ i. (Accepted (record { state = taken .0 i }), taken .1 i))
+
+pub late-spec : {M : Type 1} → statement M
+late-spec =
+    tie.close
+    (tie.spec
+    sound-requires
+    same-length
+    returns
+    is-late-requires
+    same-length-2
+    returns-2
+    same-length-3
+    returns-3
+    find-requires
+    held-requires
+    same-length-4
+    returns-4
+    add-runs
+    joins-requires
+    sub-runs
+    same-length-5
+    returns-5
+    accept-requires
+    same-length-6
+    returns-6)

@@ -1,0 +1,95 @@
+-- `trace::Trace::lookup` meets its contract: each return is its case of the outcome.
+use borrow.Author.Needs.{needs}
+use borrow.Author.Tests.{le-leb, lt-leb}
+use native.Mathlib.Omega.{arith}
+use mathlib.Core.Path.{_≡_}
+use mathlib.Core.Bool.{Bool, true, false, not}
+use lib.Dec.{leb}
+use Rattle.rule.specs.Calls.{found, foundOf, isHeld, lookupOutcome, refuse}
+use Rattle.rule.specs.Numbers.{ticks}
+use Rattle.rule.specs.Room.{sound, tableOf}
+use Rattle.rule.specs.Table.{holding}
+use Rattle.room.specs.Slots.{Placed}
+use Rattle.room.proofs.Placing.{filled-before}
+use Rattle.room.proofs.Reading.{filled}
+use Rattle.room.proofs.Sounding.{sound-facts, sound-filled}
+use Rattle.room.proofs.Tests.{flipped}
+use Rattle.trace.proofs.Finding.{before-holds, not-held, past-first, sound-placed}
+use Rattle.trace.proofs.Trace.lookup.Statement.{statement}
+use Rattle.trace.proofs.Trace.lookup.Tie as tie
+
+-- past the first test the trace is sound, past the second the tick is in range
+whole : (c : tie.Else1) → sound (c .before .before .before .args .self .state) (c .before .before .before .args .room .now) ≡ true
+whole c = flipped (c .before .sound .ensures) (c .if1 .left)
+
+in-range : (c : tie.Else2) → leb ticks (c .before .before .before .before .args .tick) ≡ false
+in-range c = lt-leb ticks (c .before .before .before .before .args .tick) (omega arith)
+
+placed : (c : tie.After-find)
+    → let a = c .before .before .before .before .before .args in Placed (a .room .now) (a .self .state .used) (c .find .result) (a .tick)
+placed c =
+    let a = c .before .before .before .before .before .args in
+    sound-placed (a .self .state) (a .room .now) (c .find .result) (a .tick) (whole (c .before .before)) (c .find .ensures)
+
+-- what the third test tells
+told : (c : tie.After-held) {v : Bool} → not (c .held .result) ≡ v
+    → let a = c .before .before .before .before .before .before .args in isHeld (holding (a .tick) (tableOf (a .self .state) (a .room .now))) ≡ not v
+told c = flipped (c .held .ensures (c .before .before .before .before .before .before .args .self .state .used) (placed (c .before)))
+
+sound-requires : tie.Need-sound-requires
+sound-requires c κs = search needs
+
+returns : tie.Need-returns
+unfolding lookupOutcome refuse foundOf
+returns c = rw (flipped (c .before .sound .ensures) (c .if1 .taken))
+
+returns-2 : tie.Need-returns-2
+unfolding lookupOutcome refuse foundOf
+returns-2 c = rw (whole (c .before), le-leb ticks (c .before .before .before .before .args .tick) (c .if2 .taken))
+
+find-requires : tie.Need-find-requires
+find-requires c κs =
+    let a = c .before .before .before .before .args in
+    sound-filled (a .self .state) (a .room .now) (sound-facts (a .self .state) (a .room .now) (whole (c .before)))
+
+held-requires : tie.Need-held-requires
+held-requires c κs = filled-before (placed c)
+
+returns-3 : tie.Need-returns-3
+unfolding lookupOutcome refuse foundOf found
+returns-3 c =
+    let past = c .before .before .before in
+    rw (whole (past .before), in-range past, not-held _ (told (c .before) (c .if3 .taken)))
+
+sub-read : tie.Need-sub-read
+sub-read c = omega (arith, past-first (placed (c .before .before)) (told (c .before) (c .if3 .left)))
+
+read-requires : tie.Need-read-requires
+read-requires c κs =
+    let w = placed (c .before .before) in
+    filled (filled-before w) _ (omega (arith, past-first w (told (c .before) (c .if3 .left))))
+
+found-in-requires : tie.Need-found-in-requires
+found-in-requires c κs = search needs
+
+returns-4 : tie.Need-returns-4
+unfolding lookupOutcome refuse foundOf
+returns-4 c =
+    let held = c .before .before in
+    let past = held .before .before .before in
+    rw (c .found-in .ensures, c .before .read .ensures, whole (past .before), in-range past, before-holds (placed (held .before .before)) (told (held .before) (held .if3 .left)))
+
+pub lookup-spec : {M : Type 1} → statement M
+lookup-spec =
+    tie.close
+    (tie.spec
+    sound-requires
+    returns
+    returns-2
+    find-requires
+    held-requires
+    returns-3
+    sub-read
+    read-requires
+    found-in-requires
+    returns-4)

@@ -1,0 +1,135 @@
+-- Demands 2 and 3 hold of everything that can be reached.
+use Prim.Native.Nat.{ℕ, zero, suc, _+_, _*_, _/_, _≤_, _<_}
+use mathlib.Core.Path.{_≡_, refl, sym, ap, _∙_, subst}
+use mathlib.Core.Bool.{Bool, true, false, cond, true≢false, false≢true}
+use mathlib.Core.List.{List, [], _∷_, List·Memᴰ}
+use mathlib.Core.Option.{Option, some}
+use native.Mathlib.Omega.{arith}
+use borrow.Author.Tests.{lt-leb}
+use lib.IntN.{ℤ}
+use lib.ListN.{length}
+use Rattle.rule.specs.declared.Bucket.{Bucket}
+use Rattle.rule.specs.declared.Kind.{Kind}
+use Rattle.rule.specs.declared.Kind.the-variants.{InOrder, Late}
+use Rattle.rule.specs.declared.Settings.{Settings}
+use Rattle.rule.specs.declared.State.{State}
+use Rattle.rule.specs.declared.Found.{Found}
+use Rattle.rule.specs.Bucket.{end, error, level}
+use Rattle.rule.specs.Calls.{Verdict, accepted, foundOf, found, isHeld, kept, late, lateOutcome, lateVerdict, lookupOutcome, nextOutcome, nextVerdict, opened, admitted, refuse, stateOf, traced}
+use Rattle.rule.specs.Numbers.{ticks}
+use Rattle.rule.specs.Room.{laid, signed, slots, sound, tableOf}
+use Rattle.rule.specs.Table.{Table, accept, holders, holding, holds, limit, needed, nextTick, runs}
+use Rattle.rule.proofs.Ruling.{Ruled}
+use Rattle.rule.proofs.Tables.{held-within, one}
+use Rattle.rule.proofs.Whole.{by-test}
+use Rattle.room.proofs.Laying.{length-slots, slots-laid}
+use Rattle.room.proofs.Placing.{held-counts}
+use Rattle.room.proofs.Reading.{signed-fits}
+use Rattle.room.proofs.Sounding.{Facts, sound-facts, sound-ordered, steps-bounds}
+use Rattle.trace.specs.Left.{LeavesSound, LeftBy}
+use Rattle.trace.proofs.Leaving.{late-leaves, next-leaves, open-leaves}
+use Rattle.demands.specs.History.{Accepted, Reading, Takes, arrived, runsOf, tableAfter}
+use Rattle.demands.specs.Served.{Near, Served, Shown}
+use Rattle.demands.proofs.Instance.{demand3}
+use Rattle.promises.specs.Reached.{Reached, late-refused, lates, next-refused, nexts, opens}
+use Rattle.promises.specs.Demands.{Kept, Seen}
+use Rattle.promises.proofs.Outcomes.{late-taken, next-taken, open-taken, traced-accepted, traced-refused}
+
+-- ---- along the way
+
+record Known (rs : List Reading) (s : State) (l : List ℤ) : Type 0 where
+  fit : sound s l ≡ true
+  buckets : tableOf s l ≡ tableAfter (s .settings) rs
+  taken : Accepted (s .settings) rs
+
+left-sound : {o : Verdict State × List ℤ} {s : State} {m : List ℤ} → o ≡ (accepted s, m) → LeavesSound o → sound s m ≡ true
+unfolding LeftBy
+left-sound e h = subst LeavesSound e h
+
+-- the table that was laid is read back
+laid-table : (g : Settings) (t : Table) (l : List ℤ) → tableOf (stateOf g t) (laid (needed g) t l) ≡ t
+laid-table g t l = slots-laid (needed g) t l
+
+module _ {rs : List Reading} {s : State} {l : List ℤ} (k : Known rs s l) (r : Reading) (t : State) (m : List ℤ) where
+  step : Takes (s .settings .kind) (tableOf s l) (r .tick) → t ≡ stateOf (s .settings) (accept (s .settings) (tableOf s l) (r .tick) (r .value))
+      → m ≡ laid (needed (s .settings)) (accept (s .settings) (tableOf s l) (r .tick) (r .value)) l → sound t m ≡ true → Known (r ∷ rs) t m
+  unfolding tableAfter Accepted
+  step takes state room fit =
+      let g : Settings = s .settings in
+      let same : t .settings ≡ g = ap (λ (x : State). x .settings) state in
+      let w : Table = accept g (tableOf s l) (r .tick) (r .value) in
+      let read : tableOf t m ≡ w = ap (λ (x : State). tableOf x m) state ∙ ap (λ (x : List ℤ). tableOf (stateOf g w) x) room ∙ laid-table g w l in
+      let by-rule : w ≡ accept g (tableAfter g rs) (r .tick) (r .value) = ap (λ (u : Table). accept g u (r .tick) (r .value)) (k .buckets) in
+      record {
+        fit = fit;
+        buckets = read ∙ by-rule ∙ ap (λ (x : Settings). accept x (tableAfter x rs) (r .tick) (r .value)) (sym same);
+        taken = subst (λ (x : Settings). Takes (x .kind) (tableAfter x rs) (r .tick) × Accepted x rs) (sym same) (subst (λ (u : Table). Takes (g .kind) u (r .tick)) (k .buckets) takes, k .taken);
+      }
+
+next-takes : (k : Kind) (t : Table) → late k ≡ false → Takes k t (nextTick t)
+unfolding late Takes
+next-takes InOrder t e = refl
+next-takes Late t e = absurd (true≢false e)
+
+late-takes : (k : Kind) (t : Table) (tick : ℕ) → late k ≡ true → holders tick t ≡ 0 → Takes k t tick
+unfolding late Takes
+late-takes InOrder t tick e h = absurd (false≢true e)
+late-takes Late t tick e h = h
+
+known : {rs : List Reading} {s : State} {l : List ℤ} → Reached rs s l → Known rs s l
+unfolding tableAfter Accepted slots
+known (opens g l {m = m} {s = s} e) =
+    let o = traced-accepted (kept g) l (admitted (kept g) l (accepted [])) s m e in
+    record { fit = left-sound e (open-leaves g l); buckets = ap (λ (x : State). tableOf x m) (o .state ∙ ap (stateOf (kept g)) (open-taken (kept g) l [] (o .table) (o .verdict))); taken = tt }
+known (nexts {rs = rs} {s = s} {t = t} {l = l} {m = m} v range r e) =
+    let o = traced-accepted (s .settings) l (nextVerdict s l v) t m e in
+    let n = next-taken s l v (o .table) (o .verdict) in
+    step (known r) (record { tick = nextTick (tableOf s l); value = v }) t m (next-takes (s .settings .kind) (tableOf s l) (n .kind))
+    (o .state ∙ ap (stateOf (s .settings)) (n .table)) (o .room ∙ ap (λ (x : Table). laid (needed (s .settings)) x l) (n .table)) (left-sound e (next-leaves s l v (signed-fits v range)))
+known (lates {rs = rs} {s = s} {t = t} {l = l} {m = m} tick v range r e) =
+    let o = traced-accepted (s .settings) l (lateVerdict s l tick v) t m e in
+    let n = late-taken s l tick v (o .table) (o .verdict) in
+    let free = held-counts 0 tick (tableOf s l) (sound-ordered s l (sound-facts s l (n .fit))) ∙ ap one (n .free) in
+    step (known r) (record { tick = tick; value = v }) t m (late-takes (s .settings .kind) (tableOf s l) tick (n .kind) free)
+    (o .state ∙ ap (stateOf (s .settings)) (n .table)) (o .room ∙ ap (λ (x : Table). laid (needed (s .settings)) x l) (n .table)) (left-sound e (late-leaves s l tick v (signed-fits v range)))
+known (next-refused {rs = rs} {s = s} {l = l} {m = m} {r = q} v r e) = subst (Known rs s) (sym (traced-refused (s .settings) l (nextVerdict s l v) q m e)) (known r)
+known (late-refused {rs = rs} {s = s} {l = l} {m = m} {r = q} tick v r e) = subst (Known rs s) (sym (traced-refused (s .settings) l (lateVerdict s l tick v) q m e)) (known r)
+
+-- ---- the picture, as lookup shows it
+
+-- a held tick is one of document 01's
+held-small : (k : Kind) (e tick : ℕ) (t : Table) → Ruled k e t → 1 ≤ holders tick t → tick < ticks
+unfolding Ruled holders
+held-small k e tick [] r h = absurd (omega arith)
+held-small k e tick (b ∷ t) r h =
+    by-test (holds tick b) (λ g. omega (arith, held-within tick b g, r .0 .inside)) (λ g. held-small k (end b) tick t (r .1) (omega (arith, ap one g)))
+
+shows : (s : State) (l : List ℤ) (tick : ℕ) (b : Bucket) → sound s l ≡ true → tick < ticks → holding tick (tableOf s l) ≡ some b
+    → lookupOutcome s l tick ≡ Found.Level (level b) (error b) (b .least) (b .largest)
+unfolding lookupOutcome foundOf refuse found
+shows s l tick b fit small h = rw (fit, lt-leb ticks tick small, h)
+
+pub keeps : {rs : List Reading} {s : State} {l : List ℤ} → Reached rs s l → Kept rs s l
+unfolding isHeld
+keeps {rs} {s} {l} r =
+    let k = known r in
+    let f = sound-facts s l (k .fit) in
+    let positive : 1 ≤ s .settings .steps = steps-bounds (s .settings) (f .steps-good) .0 in
+    let d = demand3 (s .settings) rs positive (k .taken) in
+    let v : Served (s .settings .kind) (2 * s .settings .steps) rs (tableOf s l) (d .0) = subst (λ (t : Table). Served (s .settings .kind) (2 * s .settings .steps) rs t (d .0)) (sym (k .buckets)) (d .1) in
+    record {
+      fit = k .fit;
+      buckets = k .buckets;
+      picture = λ c E few near.
+          let p = v .picture c E (omega arith) near in (
+            λ q m.
+                let b = p .0 q m in
+                record { bucket = b .0; answer = shows s l (q .tick) (b .0) (k .fit) (held-small (s .settings .kind) 0 (q .tick) (tableOf s l) (f .rules) (omega (arith, held-counts 0 (q .tick) (tableOf s l) (sound-ordered s l f), is-held (holding (q .tick) (tableOf s l)) (b .1)))) (b .1); near = b .2 },
+            p .1,
+          );
+      size = omega (arith, v .size, length-slots l 0 (s .used), ap (limit (s .settings)) (v .true-runs));
+      covers = v .covers;
+    }
+  where
+    is-held : (o : Option Bucket) {b : Bucket} → o ≡ some b → one (isHeld o) ≡ 1
+    is-held o e = rw e

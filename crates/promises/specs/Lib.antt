@@ -1,0 +1,3 @@
+-- The person's demands as statements about the calls, for a stranger to read without the proofs.
+pub mod Reached
+pub mod Demands

@@ -4,3 +4,4 @@ pub mod Following
 pub mod Arriving
 pub mod Finding
 pub mod Leaving
+pub mod OneOutcome

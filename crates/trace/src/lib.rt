@@ -24,6 +24,9 @@ use rule::Refusal;
 use rule::Settings;
 use rule::State;
 
+// The last tick that a trace can hold.
+const LAST: u32 = 16777215;
+
 // The trace's state, with its calls. Each hands the next one back.
 pub struct Trace {
     pub state: State,
@@ -160,7 +163,7 @@ impl Trace {
             return Answer::Refused(Refusal::Kind);
         }
         let tick = next_tick(&*room, s.used);
-        if 16777215 < tick {
+        if (LAST as usize) < tick {
             return Answer::Refused(Refusal::Tick);
         }
         Answer::Accepted(self.accept(&mut *room, s.used, 1, tick as u32, value))
@@ -179,7 +182,7 @@ impl Trace {
         if !is_late(kind) {
             return Answer::Refused(Refusal::Kind);
         }
-        if 16777215 < tick {
+        if LAST < tick {
             return Answer::Refused(Refusal::Tick);
         }
         let at = find(&*room, s.used, tick);
@@ -201,7 +204,7 @@ impl Trace {
         if !sound(s, room) {
             return Found::Refused(Refusal::Unsound);
         }
-        if 16777215 < tick {
+        if LAST < tick {
             return Found::Refused(Refusal::Tick);
         }
         let at = find(room, s.used, tick);

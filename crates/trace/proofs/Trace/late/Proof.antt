@@ -5,7 +5,6 @@ use native.Mathlib.Omega.{arith}
 use Prim.Native.Nat.{_+_, _-_}
 use mathlib.Core.Path.{_≡_, sym, _∙_}
 use mathlib.Core.Bool.{true, false}
-use lib.IntN.{ℤ}
 use mir.Facts.{toZ-ofZ}
 use Rattle.rule.specs.Calls.{isHeld, late, lateVerdict, refuse, traced}
 use Rattle.rule.specs.Numbers.{ticks}
@@ -111,8 +110,8 @@ returns-5 : tie.Need-returns-5
 unfolding refuse traced answer
 returns-5 c =
     let j = c .before .before in
-    let four = unheld j in
-    rw (late-left (passed (sought four)) (free four) (origin j .args .value), ← truth j, lt-ltb _ _ (c .if5 .taken))
+    let s = origin j .args .self .state in
+    rw (late-left (passed (sought (unheld j))) (free (unheld j)) (origin j .args .value), ← truth j, lt-ltb (s .settings .gaps) (s .runs + 1 - j .joins .result) (c .if5 .taken))
 
 accept-requires : tie.Need-accept-requires
 accept-requires c κs =
@@ -128,9 +127,9 @@ returns-6 : tie.Need-returns-6
 unfolding refuse traced answer
 returns-6 c =
     let j = c .before .before .before .before .before in
-    let four = unheld j in
+    let s = origin j .args .self .state in
     let taken = rw (toZ-ofZ (origin j .fits .value)) at (c .before .accept .ensures) in
-    rw (late-left (passed (sought four)) (free four) (origin j .args .value), ← truth j, le-ltb _ _ (c .before .before .before .if5 .left))
+    rw (late-left (passed (sought (unheld j))) (free (unheld j)) (origin j .args .value), ← truth j, le-ltb (s .settings .gaps) (s .runs + 1 - j .joins .result) (c .before .before .before .if5 .left))
     (λ i. (Accepted (record { state = taken .0 i }), taken .1 i))
 
 pub late-spec : {M : Type 1} → statement M

@@ -24,7 +24,7 @@ use Rattle.rule.proofs.Tables.{held-within, one}
 use Rattle.rule.proofs.Whole.{by-test}
 use Rattle.room.proofs.Laying.{length-slots, slots-laid}
 use Rattle.room.proofs.Placing.{held-counts}
-use Rattle.room.proofs.Reading.{signed-fits}
+use Rattle.rule.proofs.Signed.{signed-fits}
 use Rattle.room.proofs.Sounding.{Facts, sound-facts, sound-ordered, steps-bounds}
 use Rattle.trace.specs.Left.{LeavesSound, LeftBy}
 use Rattle.trace.proofs.Leaving.{late-leaves, next-leaves, open-leaves}

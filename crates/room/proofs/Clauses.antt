@@ -1,22 +1,19 @@
 -- Soundness as the code tests it, one list in its order, and how many slots a sound state can use.
-use Prim.Native.Nat.{ℕ, _+_, _*_, _≤_}
+use Prim.Native.Nat.{ℕ, _*_, _≤_}
 use mathlib.Core.Path.{_≡_, sym, _∙_}
 use mathlib.Core.Bool.{Bool, true, false, and-assoc}
 use mathlib.Core.List.{List, [], _∷_}
 use native.Mathlib.Omega.{arith}
-use borrow.Author.Tests.{leb-true}
 use lib.Dec.{leb}
 use lib.IntN.{ℤ}
 use lib.ListN.{getD}
-use Rattle.rule.specs.declared.Kind.{Kind}
-use Rattle.rule.specs.declared.Kind.the-variants.{InOrder, Late}
 use Rattle.rule.specs.declared.State.{State}
 use Rattle.rule.specs.Numbers.{most}
-use Rattle.rule.specs.Room.{allOf, clauses, gapsBounded, gapsGood, restZero, roomy, runsAllowed, sound, stepsGood}
-use Rattle.rule.specs.Table.{limit, limitOver}
-use Rattle.rule.proofs.Ruling.{and-right}
+use Rattle.rule.specs.Room.{allOf, clauses, gapsGood, restZero, roomy, runsAllowed, sound, stepsGood}
+use Rattle.rule.specs.Table.{limit}
 use Rattle.room.proofs.Tests.{fails}
 use Rattle.room.proofs.Scanning.{scanned}
+use Rattle.room.proofs.Sounding.{gaps-small, limit-gaps}
 
 abbrev pub tests : State → List ℤ → List Bool
 tests s l =
@@ -39,16 +36,6 @@ unsound s l i e = sym (sound-tests s l ∙ fails (tests s l) i e)
 
 -- ---- limits
 
-limit-most : (k : Kind) (base gaps : ℕ) → gapsGood k gaps ≡ true → limitOver k base gaps ≤ base + most
-unfolding gapsGood gapsBounded limitOver
-limit-most InOrder base gaps e = omega arith
-limit-most Late base gaps e = omega (arith, leb-true gaps most (and-right (leb 1 gaps) (leb gaps most) e))
-
-limit-grows : (k : Kind) (base gaps runs : ℕ) → runsAllowed k gaps runs ≡ true → limitOver k base runs ≤ limitOver k base gaps
-unfolding runsAllowed limitOver
-limit-grows InOrder base gaps runs e = omega arith
-limit-grows Late base gaps runs e = omega (arith, leb-true runs gaps e)
-
 pub record Limits (s : State) : Type 0 where
   pub small : limit (s .settings) (s .settings .gaps) ≤ 768
   pub grows : limit (s .settings) (s .runs) ≤ limit (s .settings) (s .settings .gaps)
@@ -57,4 +44,4 @@ pub limits : (s : State) → s .settings .steps ≤ most → gapsGood (s .settin
     → runsAllowed (s .settings .kind) (s .settings .gaps) (s .runs) ≡ true → Limits s
 limits s h g r =
     let t = s .settings in
-    record { small = omega (arith, limit-most (t .kind) (2 * t .steps) (t .gaps) g); grows = limit-grows (t .kind) (2 * t .steps) (t .gaps) (s .runs) r }
+    record { small = omega (arith, gaps-small (t .kind) (2 * t .steps) (t .gaps) g); grows = limit-gaps (t .kind) (2 * t .steps) (t .gaps) (s .runs) r }

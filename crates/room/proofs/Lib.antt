@@ -8,5 +8,5 @@ pub mod Merges
 pub mod Placing
 pub mod Tests
 pub mod Scanning
-pub mod Clauses
 pub mod Sounding
+pub mod Clauses

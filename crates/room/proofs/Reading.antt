@@ -6,7 +6,7 @@ use mathlib.Core.List.{List, append-assoc}
 use native.Mathlib.Omega.{arith}
 use native.Mathlib.Nat.{add-zero, zero-add}
 use lib.Dec.{T}
-use lib.IntN.{ℤ, pos, negsuc, natAbs, negℤ}
+use lib.IntN.{ℤ, pos, negsuc, natAbs}
 use lib.ListN.{length, getD, set}
 use lib.Seq.{sets-eq}
 use lib.Signed.{leZ, ltZ, nonNeg}
@@ -14,7 +14,7 @@ use mir.Syntax.{w32, w64}
 use mir.Val.{Fits, SFits, toZ, ofZ}
 use mir.Facts.{toZ-ofZ}
 use Rattle.rule.specs.declared.Bucket.{Bucket}
-use Rattle.rule.specs.Numbers.{half, word}
+use Rattle.rule.specs.Numbers.{word}
 use Rattle.rule.specs.Room.{field, numbers, ranged, signed, slotRanged, unsigned, within}
 use Rattle.rule.proofs.Whole.{whole, one-side}
 use Rattle.room.specs.Slots.{Filled, put}
@@ -69,13 +69,6 @@ unsigned-fits (negsuc n) e = absurd (false≢true e)
 
 pub unsigned-casts : (z : ℤ) → unsigned z ≡ true → T (nonNeg (toZ w64 (ofZ w64 z))) × Fits w32 (natAbs (toZ w64 (ofZ w64 z)))
 unsigned-casts z e = rw (unsigned-held z e) (unsigned-fits z e)
-
-pub signed-fits : (z : ℤ) → signed z ≡ true → SFits w32 z
-unfolding within
-signed-fits z e =
-    let low : leZ (negℤ (pos half)) z ≡ true = and-left (leZ (negℤ (pos half)) z) (ltZ z (pos half)) e in
-    let high : ltZ z (pos half) ≡ true = and-right (leZ (negℤ (pos half)) z) (ltZ z (pos half)) e in
-    omega (whole, one-side z)
 
 pub stored : (l : List ℤ) (i : ℕ) (b : Bucket) → 4 * suc i ≤ length l
     → set (set (set (set l (4 * i) (pos (b .start))) (4 * i + 1) (pos (b .count))) (4 * i + 2) (b .least)) (4 * i + 3) (b .largest) ≡ put l i b

@@ -17,7 +17,8 @@ use Rattle.rule.specs.Room.{slot, slotRanged, slots}
 use Rattle.rule.specs.Table.{Choice, cheaper, cheapest, choice, nothing, pair}
 use Rattle.rule.proofs.Whole.{whole, by-test, cond-ind, distance-is}
 use Rattle.room.specs.Slots.{Filled, costOf, placeOf}
-use Rattle.room.proofs.Reading.{filled, ranges, signed-fits}
+use Rattle.rule.proofs.Signed.{signed-fits}
+use Rattle.room.proofs.Reading.{filled, ranges}
 
 -- ---- the tie rule
 

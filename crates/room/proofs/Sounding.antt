@@ -1,32 +1,31 @@
 -- What soundness says, fact by fact, and that a trace whose buckets were inserted and settled is sound again.
 use Prim.Native.Nat.{ℕ, zero, suc, _+_, _*_, _-_, _≤_, _<_, min}
 use mathlib.Core.Path.{_≡_, refl, sym, ap, _∙_, subst}
-use mathlib.Core.Bool.{Bool, true, false, _&&_, false≢true}
+use mathlib.Core.Bool.{Bool, true}
 use mathlib.Core.List.{List, [], _∷_, _++_}
 use native.Mathlib.Omega.{arith}
 use native.Mathlib.Nat.{suc-add, zero-add}
 use borrow.Author.Tests.{leb-true, le-leb, eqb-true, eq-eqb}
-use lib.Dec.{leb, eqb}
+use lib.Dec.{leb}
 use lib.IntN.{ℤ, pos}
-use lib.ListN.{length, getD, take, drop, length-replicate, replicate}
+use lib.ListN.{length, getD, take, drop, length-replicate}
 use lib.Seq.{drop-at, drop-drop, take-at, take-nil}
-use Rattle.rule.specs.declared.Bucket.{Bucket}
 use Rattle.rule.specs.declared.Kind.{Kind}
 use Rattle.rule.specs.declared.Kind.the-variants.{InOrder, Late}
 use Rattle.rule.specs.declared.Settings.{Settings}
 use Rattle.rule.specs.declared.State.{State}
 use Rattle.rule.specs.Bucket.{end}
 use Rattle.rule.specs.Calls.{stateOf}
-use Rattle.rule.specs.Numbers.{most, ticks, word}
+use Rattle.rule.specs.Numbers.{ticks, word}
 use Rattle.rule.specs.Room.{allOf, allZero, clauses, flat, gapsBounded, gapsGood, laid, ranged, restZero, roomy, runsAllowed, slots, sound, stepsGood, tableOf, zeros}
 use Rattle.rule.specs.Rules.{equal, ruled}
-use Rattle.rule.specs.Table.{Table, Ordered, accept, cheapest, insert, limit, limitOver, merge, mergeAt, mergeOf, needed, readings, runs, runsAfter, settle, single, Choice, nothing, pair, lastEnd}
-use Rattle.rule.proofs.Merging.{Enough, merge-readings, settle-keeps, settle-length, settle-readings, settle-runs}
+use Rattle.rule.specs.Table.{Table, Ordered, cheapest, limit, limitOver, merge, mergeOf, needed, readings, runs, settle, Choice, nothing, pair}
+use Rattle.rule.proofs.Merging.{Enough, merge-readings, settle-keeps, settle-length, settle-runs}
 use Rattle.rule.proofs.Ruling.{Ruled, and-left, and-right, facts-ruled, in-order-runs, ordered-readings, ruled-end, ruled-facts, ruled-ordered, settle-ruled}
-use Rattle.rule.proofs.Tables.{insert-length, insert-readings}
 use Rattle.room.specs.Slots.{Filled, Settling}
-use Rattle.room.proofs.Fitting.{Fitted, Fitting, filled-laid, fitted-insert, fitted-merge, fitted-slots}
-use Rattle.room.proofs.Laying.{laid-more, length-flat, length-laid, length-slots, slots-laid}
+use Rattle.rule.proofs.Fitting.{Fitted, fitted-merge}
+use Rattle.room.proofs.Fitting.{filled-laid}
+use Rattle.room.proofs.Laying.{laid-more, length-flat, length-laid, slots-laid}
 
 pub record Facts (s : State) (l : List ℤ) : Type 0 where
   pub steps-good : stepsGood (s .settings) ≡ true
@@ -81,12 +80,13 @@ facts-sound s l f =
 
 -- ---- numbers
 
-limit-gaps : (k : Kind) (base gaps runs : ℕ) → runsAllowed k gaps runs ≡ true → limitOver k base runs ≤ limitOver k base gaps
+-- the limit grows with the runs, which are at most K
+pub limit-gaps : (k : Kind) (base gaps runs : ℕ) → runsAllowed k gaps runs ≡ true → limitOver k base runs ≤ limitOver k base gaps
 unfolding runsAllowed limitOver
 limit-gaps InOrder base gaps runs h = omega arith
 limit-gaps Late base gaps runs h = omega (arith, leb-true runs gaps h)
 
-gaps-small : (k : Kind) (base gaps : ℕ) → gapsGood k gaps ≡ true → limitOver k base gaps ≤ base + 256
+pub gaps-small : (k : Kind) (base gaps : ℕ) → gapsGood k gaps ≡ true → limitOver k base gaps ≤ base + 256
 unfolding gapsGood gapsBounded limitOver
 gaps-small InOrder base gaps h = omega arith
 gaps-small Late base gaps h = omega (arith, leb-true gaps 256 (and-right (leb 1 gaps) (leb gaps 256) h))
@@ -145,6 +145,26 @@ rest-laid s w l =
     let k : ℕ = 4 * (needed s - length w) in
     rw (drop-at (flat w) (zeros k ++ drop (4 * needed s) l) (4 * length w) (length-flat w), take-at (zeros k) (drop (4 * needed s) l) k (length-zeros k)) (all-zeros k)
 
+-- a table that meets what a sound state asks, laid
+pub laid-facts : (s : Settings) (w : Table) (l : List ℤ) → stepsGood s ≡ true → gapsGood (s .kind) (s .gaps) ≡ true → runsAllowed (s .kind) (s .gaps) (runs w) ≡ true
+    → 4 * needed s ≤ length l → length w ≤ limit s (runs w) → Fitted w → Ruled (s .kind) 0 w → Facts (stateOf s w) (laid (needed s) w l)
+laid-facts s w l steps gaps allowed long few fitted rules =
+    let n : ℕ = needed s in
+    let within : length w ≤ n = omega (arith, limit-gaps (s .kind) (2 * s .steps) (s .gaps) (runs w) allowed) in
+    let same : slots (laid n w l) 0 (length w) ≡ w = slots-laid n w l in
+    record {
+      steps-good = steps;
+      gaps-good = gaps;
+      allowed = allowed;
+      long = omega (arith, length-laid n w l within long);
+      few = few;
+      ranges = filled-laid n w l within long fitted .ranges;
+      rules = rw same rules;
+      true-runs = ap runs (sym same);
+      true-readings = ap readings (sym same);
+      rest = rest-laid s w l;
+    }
+
 -- ---- an accepted reading
 
 fitted-merges : (q : Choice) (t : Table) → Fitted t → readings t < word → Fitted (mergeOf q t)
@@ -192,24 +212,10 @@ module _ (s : State) (l : List ℤ) (f : Facts s l) (u : Table) (longer : length
   -- what a sound state says of the settled buckets, laid
   pub settled-facts : Facts (stateOf (s .settings) (settle (s .settings) u)) (laid (needed (s .settings)) (settle (s .settings) u) l)
   settled-facts =
-      let w : Table = settle (s .settings) u in
-      let n : ℕ = needed (s .settings) in
-      let settled : length w ≡ min (length u) (limit (s .settings) (runs u)) = settle-length (s .settings) (length u) u (omega arith) enough in
-      let same-runs : runs w ≡ runs u = settle-runs (s .settings) u enough in
-      let within : length w ≤ n = omega (arith, used-needed s l f) in
-      let same : slots (laid n w l) 0 (length w) ≡ w = slots-laid n w l in
-      record {
-        steps-good = f .steps-good;
-        gaps-good = f .gaps-good;
-        allowed = rw same-runs allowed;
-        long = omega (arith, f .long, length-laid n w l within (f .long));
-        few = rw same-runs (omega arith);
-        ranges = filled-laid n w l within (f .long) (settle-fitted (s .settings) u enough fitted counted) .ranges;
-        rules = rw same (settle-ruled (s .settings) (s .settings .kind) 0 u enough rules);
-        true-runs = ap runs (sym same);
-        true-readings = ap readings (sym same);
-        rest = rest-laid (s .settings) w l;
-      }
+      let settled : length (settle (s .settings) u) ≡ min (length u) (limit (s .settings) (runs u)) = settle-length (s .settings) (length u) u (omega arith) enough in
+      let same-runs : runs (settle (s .settings) u) ≡ runs u = settle-runs (s .settings) u enough in
+      laid-facts (s .settings) (settle (s .settings) u) l (f .steps-good) (f .gaps-good) (rw same-runs allowed) (f .long) (rw same-runs (omega arith))
+      (settle-fitted (s .settings) u enough fitted counted) (settle-ruled (s .settings) (s .settings .kind) 0 u enough rules)
 
   pub settled-sound : sound (stateOf (s .settings) (settle (s .settings) u)) (laid (needed (s .settings)) (settle (s .settings) u) l) ≡ true
   settled-sound = facts-sound (stateOf (s .settings) (settle (s .settings) u)) (laid (needed (s .settings)) (settle (s .settings) u) l) settled-facts

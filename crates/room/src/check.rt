@@ -3,9 +3,9 @@ ghost use mathlib.Core.Path.{_≡_};
 ghost use Prim.Native.Nat.{_+_, _*_, _-_, _<_, _≤_, _^_, suc};
 ghost use lib.ListN.{length, take, drop};
 ghost use Rattle.rule.specs.Numbers.{slotWidth};
-ghost use mathlib.Core.Bool.{_&&_, cond};
+ghost use mathlib.Core.Bool.{_&&_};
 ghost use lib.Dec.{eqb};
-ghost use Rattle.rule.specs.Rules.{follows, ruled, rules};
+ghost use Rattle.rule.specs.Rules.{ruled, rules};
 ghost use Rattle.rule.specs.Room.{allOf, allZero, gapsGood, ranged, runsAllowed, signed, slotRanged, slots, sound, unsigned};
 ghost use Rattle.rule.specs.Table.{limit, readings, runs, runsAfter};
 use crate::slots::read;
@@ -13,6 +13,8 @@ use rule::Bucket;
 use rule::Kind;
 use rule::Settings;
 use rule::State;
+use rule::follows;
+use rule::starts_run;
 
 pub(crate) fn unsigned(z: i64) -> bool
     ensures { λ r. ⌜ r ≡ unsigned z ⌝ }
@@ -57,16 +59,6 @@ pub(crate) fn all_zero(room: &[i64], from: usize, to: usize) -> bool
         i += 1;
     }
     true
-}
-
-// Where a record may start, the one before it ending at `end`.
-pub(crate) fn follows(kind: Kind, end: usize, b: Bucket) -> bool
-    ensures { λ r. ⌜ r ≡ follows kind end b ⌝ }
-{
-    match kind {
-        Kind::InOrder => b.start as usize == end,
-        Kind::Late => end <= b.start as usize,
-    }
 }
 
 // A bucket meets the record rules where the one before it ends at `end`.
@@ -164,13 +156,6 @@ pub(crate) fn first_run(used: usize, room: &[i64]) -> usize
         return 1;
     }
     0
-}
-
-// 1 where the bucket begins a run, the one before it ending at `end`.
-pub(crate) fn starts_run(end: usize, b: Bucket) -> usize
-    ensures { λ r. ⌜ r ≡ cond (eqb «end» (b .start)) 0 1 ⌝ }
-{
-    if end == b.start as usize { 0 } else { 1 }
 }
 
 // State and room are sound.

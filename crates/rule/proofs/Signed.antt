@@ -1,17 +1,23 @@
 -- Signed values as the machine has them: the bits of a width, read back as a whole number.
 use Prim.Native.Nat.{_+_, _≤_, _<_, _^_}
-use mathlib.Core.Path.{_≡_}
+use mathlib.Core.Path.{_≡_, sym, ap, _∙_}
+use mathlib.Core.Bool.{true, false, false≢true}
 use native.Mathlib.Omega.{arith}
 use native.Mathlib.Nat.{pow-suc, le-of-lt}
-use lib.Dec.{T, leb, ltb, ltb→lt, le→leb}
+use lib.Dec.{T, eqb, leb, ltb, ltb→lt, le→leb}
 use lib.Pow.{pow-mono}
-use lib.IntN.{ℤ, _+ℤ_, _-ℤ_}
-use lib.Signed.{mag}
+use lib.IntN.{ℤ, pos, negℤ, _+ℤ_, _-ℤ_}
+use lib.Signed.{leZ, ltZ, mag}
 use borrow.Author.Needs.{sfits-of}
-use mir.Syntax.{Width}
+use borrow.Author.Tests.{eq-eqb, eqb-true}
+use mir.Syntax.{Width, w32}
 use mir.Val.{SFits, hbits, toZ, ofZ}
 use mir.Facts.{sfits-widen, toZ-ofZ}
-use Rattle.rule.proofs.Whole.{whole, sum, difference, one-side}
+use Rattle.rule.specs.Numbers.{half}
+use Rattle.rule.specs.Room.{signed, within}
+use Rattle.rule.specs.Rules.{equal}
+use Rattle.rule.proofs.Whole.{whole, by-test, sum, difference, le-leZ, one-side}
+use Rattle.rule.proofs.Ruling.{and-both, and-left, and-right}
 
 -- z read from its bits, where its range is told by itself: of a field of a struct, of a call's result
 pub read : (w : Width) (z : ℤ) → mag z < 2 ^ hbits w → toZ w (ofZ w z) ≡ z
@@ -50,3 +56,34 @@ module _ {w : Width} (w′ : Width) {a b : ℤ} (narrower : T (ltb (hbits w) (hb
 
   pub difference-held : toZ w′ (ofZ w′ (toZ w′ (ofZ w′ (toZ w (ofZ w a))) -ℤ toZ w′ (ofZ w′ (toZ w (ofZ w b))))) ≡ a -ℤ b
   difference-held = rw (widened w′ (as-wide w w′ narrower) fits-a, widened w′ (as-wide w w′ narrower) fits-b) (toZ-ofZ difference-fits)
+
+-- ---- equality, told by the numbers or by their bits
+
+pub equal-same : (a b : ℤ) → a ≡ b → equal a b ≡ true
+unfolding equal
+equal-same a b e = rw (le-leZ a b (omega whole), le-leZ b a (omega whole))
+
+pub equal-other : (a b : ℤ) → (a ≡ b → ⊥) → equal a b ≡ false
+unfolding equal
+equal-other a b n = by-test (leZ a b) (λ h. by-test (leZ b a) (λ k. absurd (n (omega whole))) (λ k. rw (h, k))) (λ h. rw h)
+
+module _ (w : Width) {a b : ℤ} (fits-a : SFits w a) (fits-b : SFits w b) where
+  pub same-bits : ofZ w a ≡ ofZ w b → a ≡ b
+  same-bits e = sym (toZ-ofZ fits-a) ∙ ap (toZ w) e ∙ toZ-ofZ fits-b
+
+  pub equal-bits : eqb (ofZ w a) (ofZ w b) ≡ equal a b
+  equal-bits =
+      by-test (eqb (ofZ w a) (ofZ w b))
+      (λ h. h ∙ sym (equal-same a b (same-bits (eqb-true (ofZ w a) (ofZ w b) h))))
+      (λ h. h ∙ sym (equal-other a b (λ e. false≢true (sym h ∙ eq-eqb (ofZ w a) (ofZ w b) (ap (ofZ w) e)))))
+
+-- ---- the range of a reading
+
+pub signed-fits : (z : ℤ) → signed z ≡ true → SFits w32 z
+unfolding within
+signed-fits z e =
+    omega (whole, and-left (leZ (negℤ (pos half)) z) (ltZ z (pos half)) e, and-right (leZ (negℤ (pos half)) z) (ltZ z (pos half)) e, one-side z)
+
+pub fits-signed : (z : ℤ) → SFits w32 z → signed z ≡ true
+unfolding within
+fits-signed z h = and-both {a = leZ (negℤ (pos half)) z} {b = ltZ z (pos half)} (omega whole) (omega whole)

@@ -20,7 +20,7 @@ use Rattle.rule.specs.Table.{Table, insert, nextTick, runs, runsAfter, single}
 use Rattle.rule.proofs.Ruling.{Ruled, facts-ruled, in-order-runs, insert-last, next-ruled}
 use Rattle.room.proofs.Laying.{length-slots}
 use Rattle.room.proofs.Sounding.{sound-facts, sound-ordered}
-use Rattle.trace.specs.Ready.{Ready, with}
+use Rattle.trace.specs.Ready.{Ready}
 
 in-order-one : (t : Table) (b : Bucket) → Ruled InOrder 0 (t ++ (b ∷ [])) → runs (t ++ (b ∷ [])) ≡ 1
 unfolding runs runsAfter Ruled

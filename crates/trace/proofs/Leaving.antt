@@ -1,6 +1,6 @@
 -- An accepted open or reading leaves a sound trace.
 use Prim.Native.Nat.{ℕ, _*_, _<_}
-use mathlib.Core.Path.{_≡_, refl, sym, _∙_}
+use mathlib.Core.Path.{_≡_, refl}
 use mathlib.Core.Bool.{Bool, true, false, not}
 use mathlib.Core.List.{List, []}
 use native.Mathlib.Omega.{arith}
@@ -83,25 +83,35 @@ pub taken-leaves : (s : State) (l : List ℤ) (at k tick : ℕ) (v : ℤ) → Re
 unfolding traced LeftBy
 taken-leaves s l at k tick v r fits small = taken-sound s l at k tick v r fits small
 
+-- ---- what holds of every refusal, and of a reading that is ready to be taken, holds of a reading
+
+module _ (s : State) (l : List ℤ) (v : ℤ) (P : Verdict Table → Type 0) (no : (r : Refusal) → P (refused r))
+    (takes : (at k tick : ℕ) → Ready s l at k tick v → tick < word → P (accepted (accept (s .settings) (tableOf s l) tick v))) where
+  pub next-either : P (nextVerdict s l v)
+  unfolding nextVerdict
+  next-either =
+      past-refusal P (not (sound s l)) Refusal.Unsound _ (no Refusal.Unsound)
+      (λ a. past-refusal P (late (s .settings .kind)) Refusal.Kind _ (no Refusal.Kind)
+      (λ b. past-refusal P (leb ticks (nextTick (tableOf s l))) Refusal.Tick _ (no Refusal.Tick)
+      (λ c.
+      let inside : nextTick (tableOf s l) < ticks = leb-false ticks (nextTick (tableOf s l)) c in
+      takes (s .used) 1 (nextTick (tableOf s l)) (next-ready s l v (not-false _ a) b inside) (omega arith))))
+
+  pub late-either : (tick : ℕ) → P (lateVerdict s l tick v)
+  unfolding lateVerdict
+  late-either tick =
+      past-refusal P (not (sound s l)) Refusal.Unsound _ (no Refusal.Unsound)
+      (λ a. past-refusal P (not (late (s .settings .kind))) Refusal.Kind _ (no Refusal.Kind)
+      (λ b. past-refusal P (leb ticks tick) Refusal.Tick _ (no Refusal.Tick)
+      (λ c. past-refusal P (isHeld (holding tick (tableOf s l))) Refusal.Taken _ (no Refusal.Taken)
+      (λ free. past-refusal P (ltb (s .settings .gaps) (runs (with s l tick v))) Refusal.Runs _ (no Refusal.Runs)
+      (λ few.
+      let inside : tick < ticks = leb-false ticks tick c in
+      let p : Passed s l tick = record { fit = not-false _ a; kind = not-false _ b; small = inside } in
+      takes (position tick (tableOf s l)) (runs (with s l tick v)) tick (late-ready p free refl refl (ltb-false (s .settings .gaps) (runs (with s l tick v)) few)) (omega arith))))))
+
 pub next-leaves : (s : State) (l : List ℤ) (v : ℤ) → SFits w32 v → LeavesSound (nextOutcome s l v)
-unfolding nextVerdict
-next-leaves s l v fits =
-    past-refusal (Leaves (s .settings) l) (not (sound s l)) Refusal.Unsound _ (refused-leaves (s .settings) l Refusal.Unsound)
-    (λ a. past-refusal (Leaves (s .settings) l) (late (s .settings .kind)) Refusal.Kind _ (refused-leaves (s .settings) l Refusal.Kind)
-    (λ b. past-refusal (Leaves (s .settings) l) (leb ticks (nextTick (tableOf s l))) Refusal.Tick _ (refused-leaves (s .settings) l Refusal.Tick)
-    (λ c.
-    let inside : nextTick (tableOf s l) < ticks = leb-false ticks (nextTick (tableOf s l)) c in
-    taken-leaves s l (s .used) 1 (nextTick (tableOf s l)) v (next-ready s l v (not-false _ a) b inside) fits (omega arith))))
+next-leaves s l v fits = next-either s l v (Leaves (s .settings) l) (refused-leaves (s .settings) l) (λ at k tick r small. taken-leaves s l at k tick v r fits small)
 
 pub late-leaves : (s : State) (l : List ℤ) (tick : ℕ) (v : ℤ) → SFits w32 v → LeavesSound (lateOutcome s l tick v)
-unfolding lateVerdict
-late-leaves s l tick v fits =
-    past-refusal (Leaves (s .settings) l) (not (sound s l)) Refusal.Unsound _ (refused-leaves (s .settings) l Refusal.Unsound)
-    (λ a. past-refusal (Leaves (s .settings) l) (not (late (s .settings .kind))) Refusal.Kind _ (refused-leaves (s .settings) l Refusal.Kind)
-    (λ b. past-refusal (Leaves (s .settings) l) (leb ticks tick) Refusal.Tick _ (refused-leaves (s .settings) l Refusal.Tick)
-    (λ c. past-refusal (Leaves (s .settings) l) (isHeld (holding tick (tableOf s l))) Refusal.Taken _ (refused-leaves (s .settings) l Refusal.Taken)
-    (λ free. past-refusal (Leaves (s .settings) l) (ltb (s .settings .gaps) (runs (with s l tick v))) Refusal.Runs _ (refused-leaves (s .settings) l Refusal.Runs)
-    (λ few.
-    let inside : tick < ticks = leb-false ticks tick c in
-    let p : Passed s l tick = record { fit = not-false _ a; kind = not-false _ b; small = inside } in
-    taken-leaves s l (position tick (tableOf s l)) (runs (with s l tick v)) tick v (late-ready p free refl refl (ltb-false (s .settings .gaps) (runs (with s l tick v)) few)) fits (omega arith))))))
+late-leaves s l tick v fits = late-either s l v (Leaves (s .settings) l) (refused-leaves (s .settings) l) (λ at k t r small. taken-leaves s l at k t v r fits small) tick

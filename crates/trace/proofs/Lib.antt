@@ -4,4 +4,6 @@ pub mod Following
 pub mod Arriving
 pub mod Finding
 pub mod Leaving
+pub mod Filing
+pub mod RoundTrips
 pub mod OneOutcome

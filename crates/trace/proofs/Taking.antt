@@ -1,33 +1,29 @@
 -- The inner step of an accepted reading, over lists: what the insertion and the merges leave is the table after the reading, laid, and the trace is sound again.
-use Prim.Native.Nat.{ℕ, zero, suc, _+_, _*_, _-_, _≤_, _<_}
-use mathlib.Core.Path.{_≡_, refl, sym, ap, _∙_, subst}
-use mathlib.Core.Bool.{Bool, true, false}
-use mathlib.Core.List.{List, [], _∷_, _++_}
+use Prim.Native.Nat.{ℕ, zero, suc, _+_, _-_, _≤_, _<_}
+use mathlib.Core.Path.{_≡_, sym, ap, _∙_, subst}
+use mathlib.Core.Bool.{true}
+use mathlib.Core.List.{List, _∷_, _++_}
 use native.Mathlib.Omega.{arith}
-use native.Mathlib.Nat.{add-suc, zero-add}
+use native.Mathlib.Nat.{zero-add}
 use lib.IntN.{ℤ}
 use lib.ListN.{length, take, drop}
-use lib.Seq.{take-all, drop-length}
 use mir.Syntax.{w32}
 use mir.Val.{SFits}
-use Rattle.rule.specs.declared.Bucket.{Bucket}
-use Rattle.rule.specs.declared.Kind.{Kind}
-use Rattle.rule.specs.declared.Kind.the-variants.{InOrder, Late}
-use Rattle.rule.specs.declared.Settings.{Settings}
 use Rattle.rule.specs.declared.State.{State}
 use Rattle.rule.specs.Bucket.{end}
 use Rattle.rule.specs.Calls.{stateOf}
-use Rattle.rule.specs.Numbers.{ticks, word}
+use Rattle.rule.specs.Numbers.{word}
 use Rattle.rule.specs.Room.{laid, runsAllowed, slot, slots, sound, tableOf}
 use Rattle.rule.specs.Rules.{ruled}
-use Rattle.rule.specs.Table.{Table, accept, insert, lastEnd, limit, needed, readings, runs, runsAfter, settle, single}
+use Rattle.rule.specs.Table.{Table, accept, lastEnd, needed, readings, runs, settle, single}
 use Rattle.rule.proofs.Merging.{settle-length, settle-readings, settle-runs}
-use Rattle.rule.proofs.Ruling.{Ruled, facts-ruled, in-order-runs, insert-last, next-ruled, ruled-facts}
+use Rattle.rule.proofs.Ruling.{Ruled, ruled-facts}
 use Rattle.rule.proofs.Tables.{insert-length, insert-readings}
 use Rattle.room.specs.Slots.{Settling}
-use Rattle.room.proofs.Fitting.{Fitted, Fitting, fitted-insert, fitted-slots}
+use Rattle.rule.proofs.Fitting.{Fitted, fitted-insert}
+use Rattle.room.proofs.Fitting.{fitted-slots}
 use Rattle.room.proofs.Laying.{laid-laid, length-slots, slots-laid}
-use Rattle.room.proofs.Sounding.{Facts, enough, laid-needed, settled-sound, settling, sound-facts, sound-ordered, used-needed}
+use Rattle.room.proofs.Sounding.{Facts, enough, laid-needed, settled-sound, settling, sound-facts}
 use Rattle.trace.specs.Ready.{Ready, with}
 
 -- the last of n + 1 slots ends where the table ends
@@ -92,11 +88,15 @@ module _ (s : State) (l : List ℤ) (at k tick : ℕ) (v : ℤ) (r : Ready s l a
       more : {a b c d : ℕ} → a ≡ b → b ≡ 1 + c → d ≡ c → a ≡ d + 1
       more p q w = omega arith
 
+  pub taken-short : length (accept (s .settings) (tableOf s l) tick v) ≤ suc (s .used)
+  unfolding accept
+  taken-short = omega (arith, longer, settle-length (s .settings) (length u) u (omega arith) (enough s l facts u longer fitted rules allowed))
+
   pub taken-room : laid (suc (s .used)) (settle (s .settings) (slots (laid (suc (s .used)) (placed s l at tick v) l) 0 (suc (s .used)))) (laid (suc (s .used)) (placed s l at tick v) l) ≡ laid (needed (s .settings)) (accept (s .settings) (tableOf s l) tick v) l
   unfolding accept
   taken-room =
       let w : Table = settle (s .settings) u in
-      let short : length w ≤ suc (s .used) = omega (arith, longer, settle-length (s .settings) (length u) u (omega arith) (enough s l facts u longer fitted rules allowed)) in
+      let short : length w ≤ suc (s .used) = taken-short in
       rw (found, ← r .place, laid-laid (suc (s .used)) u l (omega (arith, longer)) (suc (s .used)) w (omega arith)) (laid-needed s l facts w short)
 
   pub taken-sound : sound (stateOf (s .settings) (accept (s .settings) (tableOf s l) tick v)) (laid (needed (s .settings)) (accept (s .settings) (tableOf s l) tick v) l) ≡ true

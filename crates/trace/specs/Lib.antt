@@ -1,4 +1,6 @@
--- The answer of a call as code has it, and what the inner step of a reading asks.
+-- The answer of a call and of its inner checks as code has it, what a file is, and what the inner step of a reading asks.
 pub mod Answers
+pub mod Verdicts
+pub mod Bytes
 pub mod Ready
 pub mod Left

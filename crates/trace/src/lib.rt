@@ -1,14 +1,19 @@
 // What a caller calls: a trace in order or late over lent room. No public call here asks anything of its caller.
 ghost use mathlib.Core.Option.{some};
 ghost use mathlib.Core.Path.{_≡_};
-ghost use Rattle.rule.specs.Calls.{found, gapsKept, late, lateOutcome, lookupOutcome, nextOutcome, opened, stateOf};
-ghost use Rattle.rule.specs.Room.{laid, slots, stepsGood, tableOf};
+ghost use Rattle.rule.specs.Calls.{found, late, lateOutcome, lookupOutcome, nextOutcome, opened, stateOf};
+ghost use Rattle.rule.specs.Room.{laid, slots, tableOf};
 ghost use Rattle.rule.specs.Table.{accept, needed, nextTick};
 ghost use Rattle.room.specs.Slots.{Filled};
 ghost use Rattle.trace.specs.Answers.{answered};
 ghost use Rattle.trace.specs.Ready.{Ready};
-use room::check::gaps_good;
-use room::check::limit;
+
+mod files;
+mod settings;
+
+use crate::settings::Admitted;
+use crate::settings::admit;
+use crate::settings::kept;
 use room::check::sound;
 use room::moves::clear;
 use room::moves::insert;
@@ -36,21 +41,6 @@ pub struct Trace {
 pub enum Answer {
     Accepted(Trace),
     Refused(Refusal),
-}
-
-fn steps_good(s: Settings) -> bool
-    ensures { λ r. ⌜ r ≡ stepsGood s ⌝ }
-{
-    if s.steps < 1 { false } else { s.steps <= 256 }
-}
-
-fn gaps_kept(kind: Kind, gaps: usize) -> usize
-    ensures { λ r. ⌜ r ≡ gapsKept kind gaps ⌝ }
-{
-    match kind {
-        Kind::InOrder => 0,
-        Kind::Late => gaps,
-    }
 }
 
 fn is_late(kind: Kind) -> bool
@@ -89,32 +79,21 @@ impl Trace {
     pub fn open(settings: Settings, room: &mut [i64]) -> Answer
         ensures { λ r. ⌜ (r, now (room .exit)) ≡ answered (opened settings (now (room .entry))) ⌝ }
     {
-        let kind = settings.kind;
-        let gaps = gaps_kept(kind, settings.gaps);
-        let s = Settings {
-            kind,
-            steps: settings.steps,
-            gaps,
-        };
-        if !steps_good(s) {
-            return Answer::Refused(Refusal::Steps);
+        let s = kept(settings);
+        match admit(s, &*room) {
+            Admitted::Refused(r) => Answer::Refused(r),
+            Admitted::Slots(needed) => {
+                clear(&mut *room, 0, 4 * needed);
+                Answer::Accepted(Trace {
+                    state: State {
+                        settings: s,
+                        used: 0,
+                        runs: 0,
+                        readings: 0,
+                    },
+                })
+            }
         }
-        if !gaps_good(kind, gaps) {
-            return Answer::Refused(Refusal::Gaps);
-        }
-        let end = 4 * (limit(s, gaps) + 1);
-        if room.len() < end {
-            return Answer::Refused(Refusal::Room);
-        }
-        clear(&mut *room, 0, end);
-        Answer::Accepted(Trace {
-            state: State {
-                settings: s,
-                used: 0,
-                runs: 0,
-                readings: 0,
-            },
-        })
     }
 
     // The reading goes to its place, then the cheapest neighbours are merged while the buckets are more than the limit.

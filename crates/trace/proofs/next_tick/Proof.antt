@@ -1,7 +1,7 @@
 -- `trace::next_tick` meets its contract.
 use native.Mathlib.Omega.{arith}
-use Prim.Native.Nat.{ℕ, suc, _-_}
-use mathlib.Core.Path.{_≡_, sym, ap, _∙_}
+use Prim.Native.Nat.{_-_}
+use mathlib.Core.Path.{sym}
 use Rattle.rule.specs.Room.{slots}
 use Rattle.rule.specs.Table.{lastEnd}
 use Rattle.room.proofs.Reading.{filled}

@@ -9,7 +9,7 @@ use lib.ListN.{getD, take, drop}
 use mir.Syntax.{w64}
 use mir.Val.{ofZ}
 use Rattle.rule.specs.Room.{allZero}
-use Rattle.room.proofs.Tests.{equal-other, equal-same, same-bits}
+use Rattle.rule.proofs.Signed.{equal-other, equal-same, same-bits}
 use Rattle.room.proofs.Scanning.{zeros-next, zeros-none}
 use Rattle.room.proofs.check.all_zero.Statement.{statement}
 use Rattle.room.proofs.check.all_zero.Tie as tie

@@ -14,7 +14,8 @@ use Rattle.rule.specs.Room.{allOf}
 use Rattle.rule.specs.Rules.{equal, rules}
 use Rattle.rule.proofs.Signed.{read}
 use Rattle.rule.proofs.Whole.{whole}
-use Rattle.room.proofs.Tests.{came, equal-other, equal-same, fails, same-bits}
+use Rattle.rule.proofs.Signed.{equal-other, equal-same, same-bits}
+use Rattle.room.proofs.Tests.{came, fails}
 use Rattle.room.proofs.check.meets.Statement.{statement}
 use Rattle.room.proofs.check.meets.Tie as tie
 

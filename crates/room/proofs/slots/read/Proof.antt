@@ -3,8 +3,8 @@ use native.Mathlib.Nat.{add-zero}
 use borrow.Author.Needs.{needs}
 use mir.Syntax.{w64}
 use Rattle.rule.specs.Room.{slot}
-use Rattle.rule.proofs.Signed.{narrows, narrowed}
-use Rattle.room.proofs.Reading.{Ranges, ranges, signed-fits, unsigned-casts, unsigned-held}
+use Rattle.rule.proofs.Signed.{narrows, narrowed, signed-fits}
+use Rattle.room.proofs.Reading.{Ranges, ranges, unsigned-casts, unsigned-held}
 use Rattle.room.proofs.slots.read.Statement.{statement}
 use Rattle.room.proofs.slots.read.Tie as tie
 

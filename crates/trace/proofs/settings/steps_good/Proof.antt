@@ -1,8 +1,8 @@
--- `trace::steps_good` meets its contract.
+-- `trace::settings::steps_good` meets its contract.
 use borrow.Author.Tests.{le-leb, lt-leb}
 use Rattle.rule.specs.Room.{stepsGood}
-use Rattle.trace.proofs.steps_good.Statement.{statement}
-use Rattle.trace.proofs.steps_good.Tie as tie
+use Rattle.trace.proofs.settings.steps_good.Statement.{statement}
+use Rattle.trace.proofs.settings.steps_good.Tie as tie
 
 returns : tie.Need-returns
 unfolding stepsGood

@@ -1,8 +1,8 @@
--- `trace::gaps_kept` meets its contract: its arms are those of the definition.
+-- `trace::settings::gaps_kept` meets its contract: its arms are those of the definition.
 use Rattle.rule.specs.Calls.{gapsKept}
 use borrow.Author.Needs.{needs}
-use Rattle.trace.proofs.gaps_kept.Statement.{statement}
-use Rattle.trace.proofs.gaps_kept.Tie as tie
+use Rattle.trace.proofs.settings.gaps_kept.Statement.{statement}
+use Rattle.trace.proofs.settings.gaps_kept.Tie as tie
 
 enum-told : tie.Need-enum-told
 enum-told c = search needs

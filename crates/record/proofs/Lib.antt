@@ -1,0 +1,4 @@
+-- Laws that belong to no one function.
+pub mod Words
+pub mod Faults
+pub mod RoundTrip

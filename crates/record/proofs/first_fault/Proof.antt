@@ -1,0 +1,112 @@
+-- `record::first_fault` meets its contract. What is left of the pass gives the first fault of the whole; of one record, every rule passed is met.
+use Prim.Native.Nat.{ℕ, _-_, _/_, _≤_, _<_}
+use mathlib.Core.Path.{_≡_, refl, sym, _∙_}
+use mathlib.Core.Bool.{true}
+use native.Mathlib.Omega.{arith}
+use borrow.Author.Count.{below-more, below-none}
+use borrow.Author.Tests.{not-false, not-true}
+use borrow.Author.Needs.{needs}
+use lib.ListN.{length}
+use denote.Ref.{now}
+use Rattle.rule.specs.Numbers.{recordWidth}
+use Rattle.record.specs.Files.{meets}
+use Rattle.record.proofs.Faults.{scan, scan-all, scan-done, scan-fault, scan-next}
+use Rattle.record.proofs.first_fault.Statement.{statement}
+use Rattle.record.proofs.first_fault.Tie as tie
+
+abbrev Inv-loop : tie.InvT-loop
+Inv-loop kind file n end i b rule₀ rule = (rule ≤ 6) × ((r : ℕ) → r < rule → meets r kind end b ≡ true)
+
+abbrev μ-loop : tie.MeasureT-loop
+μ-loop kind file n end i b rule₀ rule = 6 - rule
+
+abbrev Inv-records : tie.InvT-records
+Inv-records kind file n end₀ i₀ end i = scan kind file n end i ≡ scan kind file n 0 0
+
+abbrev μ-records : tie.MeasureT-records
+μ-records kind file n end₀ i₀ end i = n - i
+
+records-holds : tie.Need-records-holds Inv-loop μ-loop Inv-records μ-records
+records-holds c = refl
+
+read-requires : tie.Need-read-requires Inv-loop μ-loop Inv-records μ-records
+read-requires c κs = omega arith
+
+loop-holds : tie.Need-loop-holds Inv-loop μ-loop Inv-records μ-records
+unfolding meets
+loop-holds c = (omega arith, below-more _ 0 (below-none _) refl)
+
+meets-requires : tie.Need-meets-requires Inv-loop μ-loop Inv-records μ-records
+meets-requires c κs = search needs
+
+add-rule : tie.Need-add-rule Inv-loop μ-loop Inv-records μ-records
+add-rule c = omega arith
+
+loop-less : tie.Need-loop-less Inv-loop μ-loop Inv-records μ-records
+loop-less c = omega arith
+
+loop-again : tie.Need-loop-again Inv-loop μ-loop Inv-records μ-records
+loop-again c =
+    (omega arith, below-more _ _ (c .before .before .before .loop .inv .1) (sym (c .before .meets .ensures) ∙ not-false _ (c .if2 .left)))
+
+end-requires : tie.Need-end-requires Inv-loop μ-loop Inv-records μ-records
+end-requires c κs = search needs
+
+add-i : tie.Need-add-i Inv-loop μ-loop Inv-records μ-records
+add-i c = omega arith
+
+records-less : tie.Need-records-less Inv-loop μ-loop Inv-records μ-records
+records-less c = omega arith
+
+records-again : tie.Need-records-again Inv-loop μ-loop Inv-records μ-records
+records-again c =
+    let start = c .before .before .before .before .before .before .before in
+    let here = c .before .before .before .before .before .records in
+    let read = c .before .before .before .read in
+    let more : here .i < length (now (start .args .file)) / recordWidth = omega arith in
+    rw (c .end .ensures)
+    (sym
+    (scan-next (start .args .kind) (now (start .args .file)) _ (here .end) (here .i) (read .result) (read .ensures) more
+    (λ rule h. c .before .before .loop .inv .1 rule (omega arith)))
+    ∙ here .inv)
+
+returns : tie.Need-returns Inv-loop μ-loop Inv-records μ-records
+returns c =
+    let a = c .before .before .before .args in
+    sym (scan-done (a .kind) (now (a .file)) _ (c .before .records .end) (c .before .records .i) (c .if1 .taken))
+    ∙ c .before .records .inv
+    ∙ scan-all (a .kind) (now (a .file))
+
+returns-2 : tie.Need-returns-2 Inv-loop μ-loop Inv-records μ-records
+returns-2 c =
+    let a = c .before .before .before .before .before .before .before .before .args in
+    let here = c .before .before .before .before .before .before .records in
+    let read = c .before .before .before .before .read in
+    let more : here .i < length (now (a .file)) / recordWidth = omega arith in
+    sym
+    (scan-fault (a .kind) (now (a .file)) _ (here .end) (here .i) (read .result) (read .ensures) more (c .before .before .before .loop .rule)
+    (sym (c .before .meets .ensures) ∙ not-true _ (c .if2 .taken)))
+    ∙ here .inv
+    ∙ scan-all (a .kind) (now (a .file))
+
+pub first-fault-spec : {M : Type 1} → statement M
+first-fault-spec =
+    tie.close
+    (tie.spec
+    Inv-loop
+    μ-loop
+    Inv-records
+    μ-records
+    records-holds
+    read-requires
+    loop-holds
+    meets-requires
+    add-rule
+    loop-less
+    loop-again
+    end-requires
+    add-i
+    records-less
+    records-again
+    returns
+    returns-2)

@@ -1,0 +1,42 @@
+-- `record::reading` meets its contract: the lower half as it is, the upper less 2 ^ 32, which 64 bits hold.
+use Prim.Native.Nat.{_<_, _^_}
+use borrow.Author.Needs.{needs}
+use native.Mathlib.Omega.{arith}
+use lib.IntN.{pos, _-ℤ_}
+use mathlib.Core.Path.{_≡_, sym}
+use mir.Syntax.{w64}
+use mir.Val.{toZ}
+use mir.Facts.{sfits-widen, toZ-pos}
+use Rattle.rule.specs.Numbers.{word}
+use Rattle.rule.specs.Bytes.{reading}
+use Rattle.rule.proofs.Signed.{narrowed, narrows}
+use Rattle.record.proofs.Words.{reading-fits, reading-is, upper}
+use Rattle.record.proofs.reading.Statement.{statement}
+use Rattle.record.proofs.reading.Tie as tie
+
+less : (c : tie.Else1) → toZ w64 (c .before .args .x) -ℤ pos word ≡ reading (c .before .args .x)
+less c =
+    let h : c .before .args .x < 2 ^ 63 = omega (arith, c .before .fits .x) in
+    rw (toZ-pos w64 h) (upper (c .before .args .x) (c .if1 .left) (c .before .fits .x))
+
+cast-result : tie.Need-cast-result
+cast-result c = search needs
+
+cast-result-2 : tie.Need-cast-result-2
+cast-result-2 c = search needs
+
+sub-result : tie.Need-sub-result
+sub-result c = rw (less c) (sfits-widen tt (reading-fits (c .before .fits .x)))
+
+cast-result-3 : tie.Need-cast-result-3
+cast-result-3 c = rw (less c) (narrows w64 tt (reading-fits (c .before .fits .x)))
+
+returns : tie.Need-returns
+returns c = sym (reading-is (c .before .args .x))
+
+returns-2 : tie.Need-returns-2
+returns-2 c = rw (less c) (narrowed w64 tt (reading-fits (c .before .fits .x)))
+
+pub reading-spec : {M : Type 1} → statement M
+reading-spec =
+    tie.close (tie.spec cast-result cast-result-2 sub-result cast-result-3 returns returns-2)

@@ -1,0 +1,2 @@
+-- What a saved file's pass answers.
+pub mod Files

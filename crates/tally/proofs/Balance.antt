@@ -1,0 +1,108 @@
+-- In a session merges equals accepted minus buckets, and the session of the definitions is the one that the calls' contracts make.
+use Prim.Native.Nat.{ℕ, suc, _+_, _≤_, _<_}
+use mathlib.Core.Path.{_≡_, refl, sym, ap, _∙_, subst}
+use mathlib.Core.Bool.{true, not}
+use mathlib.Core.List.{List, [], _∷_}
+use native.Mathlib.Omega.{arith}
+use lib.IntN.{ℤ}
+use lib.ListN.{length}
+use mir.Syntax.{w32}
+use mir.Val.{SFits}
+use Rattle.rule.specs.declared.Refusal.{Refusal}
+use Rattle.rule.specs.declared.Settings.{Settings}
+use Rattle.rule.specs.declared.State.{State}
+use Rattle.rule.specs.declared.Tally.{Tally}
+use Rattle.rule.specs.Calls.{Verdict, accepted, admitted, counted, grown, kept, opened, refused, stateOf, traced}
+use Rattle.rule.specs.Numbers.{ticks, word}
+use Rattle.rule.specs.Room.{gapsGood, roomy, sound, stepsGood, tableOf}
+use Rattle.rule.specs.Table.{Table, accept, readings}
+use Rattle.rule.proofs.Signed.{signed-fits}
+use Rattle.room.proofs.Sounding.{sound-facts, sound-readings}
+use Rattle.trace.specs.declared.Answer.{Answer}
+use Rattle.trace.specs.Answers.{answer, answered}
+use Rattle.trace.specs.Left.{LeavesSound, LeftBy}
+use Rattle.trace.specs.Ready.{Ready}
+use Rattle.trace.proofs.Leaving.{late-either, next-either, open-leaves, past-refusal}
+use Rattle.trace.proofs.Taking.{taken-short, taken-sound, taken-state}
+use Rattle.tally.specs.Session.{AlwaysBalanced, Balanced, Reading, Session, after, begun, late, left, next, onward, outcome, verdict}
+
+-- ---- a session of calls
+
+pub verdict-answer : (v : Verdict State) → verdict (answer v) ≡ v
+unfolding verdict answer
+verdict-answer (refused r) = refl
+verdict-answer (accepted s) = refl
+
+-- what `next` and `late` ensure of answer, room and tally makes what the definition leaves
+pub calls-leave : (c : Session) (o : Verdict State × List ℤ) (r : Answer) (l : List ℤ) (t : Tally) → (r, l) ≡ answered o → t ≡ counted (c .tally) (c .state .used) (verdict r)
+    → record { state = onward (c .state) (verdict r); room = l; tally = t } ≡ left c o
+calls-leave c o r l t e f =
+    let v : verdict r ≡ o .0 = ap (λ (a : Answer × List ℤ). verdict (a .0)) e ∙ verdict-answer (o .0) in
+    λ i. record { state = onward (c .state) (v i); room = e i .1; tally = (f ∙ ap (counted (c .tally) (c .state .used)) v) i }
+
+-- ---- one reading
+
+-- accepted and merges do not stop: each accepted reading takes one of the ticks
+record Even (c : Session) : Type 0 where
+  fit : sound (c .state) (c .room) ≡ true
+  each : c .tally .accepted ≡ c .state .readings
+  balanced : Balanced c
+
+module _ (c : Session) (e : Even c) where
+  abbrev state : State
+  state = c .state
+
+  abbrev room : List ℤ
+  room = c .room
+
+  abbrev Stays : Verdict Table → Type 0
+  Stays v = Even (left c (traced (state .settings) room v))
+
+  refused-stays : (r : Refusal) → Stays (refused r)
+  unfolding traced onward counted
+  refused-stays r = record { fit = e .fit; each = e .each; balanced = e .balanced }
+
+  taken-stays : (at k tick : ℕ) (v : ℤ) → Ready state room at k tick v → SFits w32 v → tick < word → Stays (accepted (accept (state .settings) (tableOf state room) tick v))
+  unfolding traced onward counted grown
+  taken-stays at k tick v r fits small =
+      let t : Table = accept (state .settings) (tableOf state room) tick v in
+      let whole = taken-sound state room at k tick v r fits small in
+      let facts = sound-facts (stateOf (state .settings) t) _ whole in
+      let more : readings t ≡ state .readings + 1 = ap (λ (z : State). z .readings) (taken-state state room at k tick v r fits small) in
+      let few : length t ≤ suc (state .used) = taken-short state room at k tick v r fits small in
+      let most : readings t ≤ ticks = omega (arith, facts .true-readings, sound-readings (stateOf (state .settings) t) _ facts) in
+      record { fit = whole; each = omega (arith, e .each); balanced = omega (arith, e .each, e .balanced) }
+
+  stays : (r : Reading) → Even (left c (outcome c r))
+  unfolding outcome
+  stays (next v ranged) = next-either state room v Stays refused-stays (λ at k tick r small. taken-stays at k tick v r (signed-fits v ranged) small)
+  stays (late tick v ranged) = late-either state room v Stays refused-stays (λ at k t r small. taken-stays at k t v r (signed-fits v ranged) small) tick
+
+-- ---- all readings
+
+after-even : (c : Session) → Even c → (rs : List Reading) → Even (after c rs)
+unfolding after
+after-even c e [] = e
+after-even c e (r ∷ rs) = after-even (left c (outcome c r)) (stays c e r) rs
+
+-- an opened trace is empty
+opened-empty : (s : Settings) (l : List ℤ) → onward (stateOf (kept s) []) (opened s l .0) ≡ stateOf (kept s) []
+unfolding admitted traced onward
+opened-empty s l =
+    let P : Verdict Table → Type 0 = λ v. onward (stateOf (kept s) []) (traced (kept s) l v .0) ≡ stateOf (kept s) [] in
+    past-refusal P (not (stepsGood (kept s))) Refusal.Steps _ refl
+    (λ _. past-refusal P (not (gapsGood (kept s .kind) (kept s .gaps))) Refusal.Gaps _ refl
+    (λ _. past-refusal P (not (roomy (kept s) l)) Refusal.Room _ refl (λ _. refl)))
+
+pub always-balanced : AlwaysBalanced
+unfolding LeftBy onward readings
+always-balanced s l st l′ e rs =
+    let empty : st ≡ stateOf (kept s) [] = ap (λ (o : Verdict State × List ℤ). onward (stateOf (kept s) []) (o .0)) (sym e) ∙ opened-empty s l in
+    let none : 0 + st .used ≡ 0 = omega (arith, ap (λ (z : State). z .used) empty) in
+    after-even (begun st l′)
+    (record {
+      fit = subst LeavesSound e (open-leaves s l);
+      each = sym (ap (λ (z : State). z .readings) empty);
+      balanced = none;
+    })
+    rs .balanced

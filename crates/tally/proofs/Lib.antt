@@ -1,0 +1,3 @@
+-- Laws that belong to no one function.
+mod Counting
+pub mod Balance

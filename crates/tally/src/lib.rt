@@ -1,0 +1,98 @@
+// The session tally: a record that the caller lends with a reading and gets back changed. Nothing else touches it.
+ghost use Prim.Native.Nat.{_+_, _-_};
+ghost use mathlib.Core.Path.{_≡_};
+ghost use Rattle.rule.specs.Calls.{counted, grown, lateOutcome, nextOutcome};
+ghost use Rattle.trace.specs.Answers.{answered};
+ghost use Rattle.tally.specs.Session.{verdict};
+use rule::Tally;
+use trace::Answer;
+use trace::Trace;
+
+// Where a count stops.
+const MOST: u32 = 4294967295;
+
+// A reading's answer, with the tally for callers who pass it by value.
+pub struct Tallied {
+    pub answer: Answer,
+    pub tally: Tally,
+}
+
+fn grown(count: u32, by: usize) -> u32
+    ensures { λ r. ⌜ r ≡ grown count by ⌝ }
+{
+    let left = MOST - count;
+    if (left as usize) < by {
+        MOST
+    } else {
+        count + by as u32
+    }
+}
+
+// before + 1 need not fit, so the one is added last.
+fn merged(count: u32, before: usize, after: usize) -> u32
+    ensures { λ r. ⌜ r ≡ grown count (before + 1 - after) ⌝ }
+{
+    if before < after {
+        grown(count, 0)
+    } else {
+        grown(grown(count, before - after), 1)
+    }
+}
+
+// The tally after a reading on this trace.
+pub fn counted(t: Tally, trace: Trace, a: Answer) -> Tally
+    ensures { λ r. ⌜ r ≡ counted t (trace .state .used) (verdict a) ⌝ }
+{
+    match a {
+        Answer::Accepted(after) => Tally {
+            accepted: grown(t.accepted, 1),
+            refused: t.refused,
+            merges: merged(t.merges, trace.state.used, after.state.used),
+        },
+        Answer::Refused(_) => Tally {
+            accepted: t.accepted,
+            refused: grown(t.refused, 1),
+            merges: t.merges,
+        },
+    }
+}
+
+// The next reading of a trace in order, counted.
+pub fn next(trace: Trace, room: &mut [i64], value: i32, tally: &mut Tally) -> Answer
+    ensures { λ r. ⌜ ((r, now (room .exit)) ≡ answered (nextOutcome (trace .state) (now (room .entry)) value)) × (now (tally .exit) ≡ counted (now (tally .entry)) (trace .state .used) (verdict r)) ⌝ }
+{
+    let a = trace.next(&mut *room, value);
+    *tally = counted(*tally, trace, a);
+    a
+}
+
+// A reading of a late trace at its tick, counted.
+pub fn late(trace: Trace, room: &mut [i64], tick: u32, value: i32, tally: &mut Tally) -> Answer
+    ensures { λ r. ⌜ ((r, now (room .exit)) ≡ answered (lateOutcome (trace .state) (now (room .entry)) tick value)) × (now (tally .exit) ≡ counted (now (tally .entry)) (trace .state .used) (verdict r)) ⌝ }
+{
+    let a = trace.late(&mut *room, tick, value);
+    *tally = counted(*tally, trace, a);
+    a
+}
+
+// The same as `next`, the tally by value.
+pub fn next_tallied(trace: Trace, room: &mut [i64], value: i32, tally: Tally) -> Tallied
+    ensures { λ r. ⌜ ((r .answer, now (room .exit)) ≡ answered (nextOutcome (trace .state) (now (room .entry)) value)) × (r .tally ≡ counted tally (trace .state .used) (verdict (r .answer))) ⌝ }
+{
+    let answer = trace.next(&mut *room, value);
+    Tallied {
+        answer,
+        tally: counted(tally, trace, answer),
+    }
+}
+
+// The same as `late`, the tally by value.
+pub fn late_tallied(trace: Trace, room: &mut [i64], tick: u32, value: i32, tally: Tally) -> Tallied
+    ensures { λ r. ⌜ ((r .answer, now (room .exit)) ≡ answered (lateOutcome (trace .state) (now (room .entry)) tick value)) × (r .tally ≡ counted tally (trace .state .used) (verdict (r .answer))) ⌝ }
+{
+    let answer = trace.late(&mut *room, tick, value);
+    Tallied {
+        answer,
+        tally: counted(tally, trace, answer),
+    }
+}

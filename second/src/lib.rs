@@ -1,7 +1,10 @@
-//! The second program of Ndezulangi as a library: the rule, the calls, the listing and the sample.
+//! The second program of Ndezulangi as a library: the rule, the calls, the commands that make them, the listing and the sample.
 
 pub mod calls;
+pub mod commands;
+pub mod commands_input;
 pub mod listing;
 pub mod random;
 pub mod rule;
 pub mod sample;
+pub mod shapes;

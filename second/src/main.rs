@@ -1,9 +1,9 @@
-//! The second program's commands: the listing, the table of one bucket's arithmetic, the sample.
+//! What the second program is asked for by name: the listing, the table of one bucket's arithmetic, the calls and their input, the sample.
 
 use second::rule::Bucket;
-use second::{listing, sample};
+use second::{commands, commands_input, listing, sample};
 use std::fmt::Write as _;
-use std::io::{self, Write as _};
+use std::io::{self, Read as _, Write as _};
 use std::process::ExitCode;
 
 /// Readings at the ends of the range, about zero and between, odd and even.
@@ -27,9 +27,11 @@ fn main() -> ExitCode {
     let output = match std::env::args().nth(1).as_deref() {
         Some("list") => listing::list(io::stdin().lock()),
         Some("buckets") => Ok(buckets().into_bytes()),
+        Some("calls") => whole_input().map(|input| commands::obey_all(&input).into_bytes()),
+        Some("calls-input") => Ok(commands_input::input()),
         Some("sample") => Ok(sample::sample().into_bytes()),
         _ => {
-            eprintln!("usage: second list | buckets | sample");
+            eprintln!("usage: second list | buckets | calls | calls-input | sample");
             return ExitCode::from(2);
         }
     };
@@ -40,6 +42,12 @@ fn main() -> ExitCode {
             ExitCode::FAILURE
         }
     }
+}
+
+fn whole_input() -> io::Result<Vec<u8>> {
+    let mut input = Vec::new();
+    io::stdin().lock().read_to_end(&mut input)?;
+    Ok(input)
 }
 
 /// Least, largest, level, error and spread of each bucket whose ends are two of the values.

@@ -27,11 +27,12 @@ use Rattle.room.proofs.Placing.{held-counts}
 use Rattle.rule.proofs.Signed.{signed-fits}
 use Rattle.room.proofs.Sounding.{Facts, sound-facts, sound-ordered, steps-bounds}
 use Rattle.trace.specs.Left.{LeavesSound, LeftBy}
+use Rattle.trace.proofs.RoundTrips.{saved-accepted}
 use Rattle.trace.proofs.Leaving.{late-leaves, next-leaves, open-leaves}
 use Rattle.demands.specs.History.{Accepted, Reading, Takes, arrived, runsOf, tableAfter}
 use Rattle.demands.specs.Served.{Near, Served, Shown}
 use Rattle.demands.proofs.Instance.{demand3}
-use Rattle.promises.specs.Reached.{Reached, late-refused, lates, next-refused, nexts, opens}
+use Rattle.promises.specs.Reached.{Reached, late-refused, lates, loads, next-refused, nexts, opens}
 use Rattle.promises.specs.Demands.{Kept, Seen}
 use Rattle.promises.proofs.Outcomes.{late-taken, next-taken, open-taken, traced-accepted, traced-refused}
 
@@ -45,6 +46,11 @@ record Known (rs : List Reading) (s : State) (l : List ℤ) : Type 0 where
 left-sound : {o : Verdict State × List ℤ} {s : State} {m : List ℤ} → o ≡ (accepted s, m) → LeavesSound o → sound s m ≡ true
 unfolding LeftBy
 left-sound e h = subst LeavesSound e h
+
+-- a table laid in another room is read off as many slots
+same-slots : (s : State) (l room : List ℤ) → tableOf s (laid (needed (s .settings)) (tableOf s l) room) ≡ tableOf s l
+same-slots s l room =
+    ap (slots (laid (needed (s .settings)) (tableOf s l) room) 0) (sym (length-slots l 0 (s .used))) ∙ slots-laid (needed (s .settings)) (tableOf s l) room
 
 -- the table that was laid is read back
 laid-table : (g : Settings) (t : Table) (l : List ℤ) → tableOf (stateOf g t) (laid (needed g) t l) ≡ t
@@ -94,6 +100,11 @@ known (lates {rs = rs} {s = s} {t = t} {l = l} {m = m} tick v range r e) =
     (o .state ∙ ap (stateOf (s .settings)) (n .table)) (o .room ∙ ap (λ (x : Table). laid (needed (s .settings)) x l) (n .table)) (left-sound e (late-leaves s l tick v (signed-fits v range)))
 known (next-refused {rs = rs} {s = s} {l = l} {m = m} {r = q} v r e) = subst (Known rs s) (sym (traced-refused (s .settings) l (nextVerdict s l v) q m e)) (known r)
 known (late-refused {rs = rs} {s = s} {l = l} {m = m} {r = q} tick v r e) = subst (Known rs s) (sym (traced-refused (s .settings) l (lateVerdict s l tick v) q m e)) (known r)
+known (loads {rs = rs} {s = s} {t = t} {l = l} {m = m} room r e) =
+    let k = known r in
+    let w = saved-accepted s l room t m (k .fit) e in
+    let read : tableOf s m ≡ tableOf s l = ap (λ (x : List ℤ). tableOf s x) (w .1) ∙ same-slots s l room in
+    subst (λ (x : State). Known rs x m) (sym (w .0)) (record { fit = w .2; buckets = read ∙ k .buckets; taken = k .taken })
 
 -- ---- the picture, as lookup shows it
 

@@ -7,7 +7,8 @@ use lib.IntN.{ℤ}
 use Rattle.rule.specs.declared.Refusal.{Refusal}
 use Rattle.rule.specs.declared.Settings.{Settings}
 use Rattle.rule.specs.declared.State.{State}
-use Rattle.rule.specs.Calls.{refused, accepted, lateOutcome, nextOutcome, opened}
+use Rattle.rule.specs.Bytes.{saved}
+use Rattle.rule.specs.Calls.{refused, accepted, lateOutcome, loaded, nextOutcome, opened}
 use Rattle.rule.specs.Room.{signed, tableOf}
 use Rattle.rule.specs.Table.{nextTick}
 use Rattle.demands.specs.History.{Reading}
@@ -24,3 +25,5 @@ pub data Reached : List Reading → State → List ℤ → Type 0 where
   -- a refused one: the caller goes on with the state that was given and the room that was left
   next-refused : {rs : List Reading} {s : State} {l m : List ℤ} {r : Refusal} (v : ℤ) → Reached rs s l → nextOutcome s l v ≡ (refused r, m) → Reached rs s m
   late-refused : {rs : List Reading} {s : State} {l m : List ℤ} {r : Refusal} (tick : ℕ) (v : ℤ) → Reached rs s l → lateOutcome s l tick v ≡ (refused r, m) → Reached rs s m
+  -- saved, and loaded with the same settings into any room
+  loads : {rs : List Reading} {s t : State} {l m : List ℤ} (room : List ℤ) → Reached rs s l → loaded (s .settings) (saved (tableOf s l)) room ≡ (accepted t, m) → Reached rs t m

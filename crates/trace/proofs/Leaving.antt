@@ -43,7 +43,7 @@ pub refused-leaves : (s : Settings) (l : List ℤ) (r : Refusal) → Leaves s l 
 unfolding traced LeftBy
 refused-leaves s l r = tt
 
-none-allowed : (k : Kind) (gaps : ℕ) → runsAllowed k gaps 0 ≡ true
+pub none-allowed : (k : Kind) (gaps : ℕ) → runsAllowed k gaps 0 ≡ true
 unfolding runsAllowed
 none-allowed InOrder gaps = refl
 none-allowed Late gaps = lib.Dec.leb·zero gaps

@@ -4,7 +4,7 @@ use mathlib.Core.Path.{_≡_, refl, sym, ap, _∙_, subst}
 use mathlib.Core.Bool.{true}
 use mathlib.Core.List.{List, [], _++_, append-assoc}
 use native.Mathlib.Omega.{arith}
-use borrow.Author.Tests.{eqb-true, le-leb}
+use borrow.Author.Tests.{eqb-true}
 use lib.IntN.{ℤ}
 use lib.ListN.{length, take, drop, length-append, length-replicate}
 use lib.Seq.{take-at}
@@ -26,6 +26,7 @@ use Rattle.room.proofs.Laying.{flat-slots, laid-more, laid-over, length-flat, l
 use Rattle.room.proofs.Sounding.{Facts, facts-sound, laid-facts, sound-facts, sound-filled, used-needed}
 use Rattle.trace.specs.Bytes.{AllBytes}
 use Rattle.trace.specs.Verdicts.{fileVerdict}
+use Rattle.trace.proofs.Leaving.{none-allowed}
 use Rattle.trace.proofs.Filing.{Granted, Loads, file-loads, load-accepts, load-leaves, save-writes}
 
 -- ---- saved, then loaded
@@ -90,6 +91,16 @@ module _ (s : State) (l : List ℤ) (whole : sound s l ≡ true) where
         ap (λ (p : Verdict State × List ℤ). take (slotWidth * n) (p .1)) again
         ∙ take-laid n (tableOf s l) m short ∙ sym (take-laid n (tableOf s l) l short) ∙ ap (take (slotWidth * n)) as-laid
 
+  -- where the load is accepted, the room was long enough
+  again-accepted : (m : List ℤ) (t : State) → loaded (s .settings) (saved (tableOf s l)) m .0 ≡ accepted t → slotWidth * needed (s .settings) ≤ length m
+  again-accepted m t e = subst (λ (k : Settings). slotWidth * needed k ≤ length m) kept-same (load-accepts (s .settings) (saved (tableOf s l)) m t e .0 .long)
+
+  laid-again : (m : List ℤ) → slotWidth * needed (s .settings) ≤ length m → sound s (laid (needed (s .settings)) (tableOf s l) m) ≡ true
+  laid-again m long =
+      ap (λ (r : State). sound r (laid (needed (s .settings)) (tableOf s l) m)) (sym state-same)
+      ∙ facts-sound _ _
+      (laid-facts (s .settings) (tableOf s l) m (facts .steps-good) (facts .gaps-good) (rw (← facts .true-runs) (facts .allowed)) long (rw (← facts .true-runs) (omega (arith, facts .few, length-slots l 0 (s .used)))) (fitted-slots l 0 (s .used) (facts .ranges)) (facts .rules))
+
 -- ---- loaded, then saved
 
 module _ (s : Settings) (file : List ℕ) (l : List ℤ) (t : State) (known : AllBytes file) (accepts : loaded s file l .0 ≡ accepted t) where
@@ -124,11 +135,6 @@ module _ (s : Settings) (file : List ℕ) (l : List ℤ) (t : State) (known : Al
       ∙ save-writes (stateOf (kept s) (recordsOf file)) (laid (needed (kept s)) (recordsOf file) l) out laid-sound (omega (arith, length-file file))
       ∙ rw (slots-laid (needed (kept s)) (recordsOf file) l, saved-records file (that-loads .even) known, length-file file, all)
 
-none-allowed : (k : Kind) (gaps : ℕ) → runsAllowed k gaps 0 ≡ true
-unfolding runsAllowed
-none-allowed InOrder gaps = refl
-none-allowed Late gaps = le-leb 0 gaps (omega arith)
-
 -- ---- the statements
 
 -- what a sound trace saves loads, with its settings and into any room that is long enough, as the same state and the same table
@@ -140,6 +146,16 @@ saved-loaded s l m whole long = again s l whole m long
 pub saved-loaded-slots : (s : State) (l m : List ℤ) → sound s l ≡ true → slotWidth * needed (s .settings) ≤ length m
     → take (slotWidth * needed (s .settings)) (loaded (s .settings) (saved (tableOf s l)) m .1) ≡ take (slotWidth * needed (s .settings)) l
 saved-loaded-slots s l m whole long = slots-again s l whole m long
+
+-- where that load is accepted, whatever the room held, the trace is the same and sound
+pub saved-accepted : (s : State) (l m : List ℤ) (t : State) (n : List ℤ) → sound s l ≡ true → loaded (s .settings) (saved (tableOf s l)) m ≡ (accepted t, n)
+    → (t ≡ s) × (n ≡ laid (needed (s .settings)) (tableOf s l) m) × (sound s n ≡ true)
+saved-accepted s l m t n whole e =
+    let long = again-accepted s l whole m t (ap (λ (p : Verdict State × List ℤ). p .0) e) in
+    let f : _≡_ {A = Verdict State × List ℤ} (accepted t, n) (accepted s, laid (needed (s .settings)) (tableOf s l) m) = sym e ∙ again s l whole m long in
+    let g : _≡_ {A = Verdict State} (accepted t) (accepted s) = ap (λ (p : Verdict State × List ℤ). p .0) f in
+    let room : n ≡ laid (needed (s .settings)) (tableOf s l) m = ap (λ (p : Verdict State × List ℤ). p .1) f in
+    ((let q : t ≡ s = cc in q), room, ap (sound s) room ∙ laid-again s l whole m long)
 
 -- an accepted load leaves a sound trace
 pub load-sound : (s : Settings) (file : List ℕ) (l : List ℤ) (t : State) → AllBytes file → loaded s file l .0 ≡ accepted t

@@ -1,6 +1,7 @@
 //! The tests of the second program.
 
 mod best_curve;
+mod commands;
 mod hand;
 mod lines;
 mod refusals;

@@ -1,0 +1,63 @@
+-- `calls::show::numbers` meets its contract: the index stays within the room.
+use Prim.Native.Nat.{_≤_, _-_}
+use borrow.Author.Needs.{needs}
+use lib.ListN.{length}
+use Rattle.calls.proofs.show.numbers.Statement.{statement}
+use Rattle.calls.proofs.show.numbers.Tie as tie
+
+abbrev Inv-loop : tie.InvT-loop
+Inv-loop room i₀ t3 i = i ≤ length room
+
+abbrev μ-loop : tie.MeasureT-loop
+μ-loop room i₀ t3 i = length room - i
+
+loop-holds : tie.Need-loop-holds Inv-loop μ-loop
+loop-holds c = search needs
+
+mul-bits : tie.Need-mul-bits Inv-loop μ-loop
+mul-bits c = search needs
+
+shared-slice-copy-out-bits : tie.Need-shared-slice-copy-out-bits Inv-loop μ-loop
+shared-slice-copy-out-bits c = search needs
+
+bits-requires : tie.Need-bits-requires Inv-loop μ-loop
+bits-requires c κs = search needs
+
+print-hex-requires : tie.Need-print-hex-requires Inv-loop μ-loop
+print-hex-requires c κs = search needs
+
+slice-aggregate-text : tie.Need-slice-aggregate-text Inv-loop μ-loop
+slice-aggregate-text c = search needs
+
+text-requires : tie.Need-text-requires Inv-loop μ-loop
+text-requires c κs = search needs
+
+add-i : tie.Need-add-i Inv-loop μ-loop
+add-i c = search needs
+
+loop-less : tie.Need-loop-less Inv-loop μ-loop
+loop-less c = search needs
+
+loop-again : tie.Need-loop-again Inv-loop μ-loop
+loop-again c = search needs
+
+returns : tie.Need-returns Inv-loop μ-loop
+returns c = search needs
+
+pub numbers-spec : {M : Type 1} → statement M
+numbers-spec =
+    tie.close
+    (tie.spec
+    Inv-loop
+    μ-loop
+    loop-holds
+    mul-bits
+    shared-slice-copy-out-bits
+    bits-requires
+    print-hex-requires
+    slice-aggregate-text
+    text-requires
+    add-i
+    loop-less
+    loop-again
+    returns)

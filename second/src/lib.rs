@@ -3,6 +3,7 @@
 pub mod calls;
 pub mod commands;
 pub mod commands_input;
+pub mod lines;
 pub mod listing;
 pub mod random;
 pub mod rule;

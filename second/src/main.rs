@@ -1,7 +1,7 @@
-//! What the second program is asked for by name: the listing, the table of one bucket's arithmetic, the calls and their input, the sample.
+//! What the second program is asked for by name: the listing and inputs for it, the table of one bucket's arithmetic, the calls and their input, the sample.
 
 use second::rule::Bucket;
-use second::{commands, commands_input, listing, sample};
+use second::{commands, commands_input, lines, listing, sample};
 use std::fmt::Write as _;
 use std::io::{self, Read as _, Write as _};
 use std::process::ExitCode;
@@ -25,13 +25,14 @@ const VALUES: [i64; 13] = [
 
 fn main() -> ExitCode {
     let output = match std::env::args().nth(1).as_deref() {
+        Some("lines") => numbered(),
         Some("list") => listing::list(io::stdin().lock()),
         Some("buckets") => Ok(buckets().into_bytes()),
         Some("calls") => whole_input().map(|input| commands::obey_all(&input).into_bytes()),
         Some("calls-input") => Ok(commands_input::input()),
         Some("sample") => Ok(sample::sample().into_bytes()),
         _ => {
-            eprintln!("usage: second list | buckets | calls | calls-input | sample");
+            eprintln!("usage: second list | buckets | calls | calls-input | lines N | sample");
             return ExitCode::from(2);
         }
     };
@@ -41,6 +42,15 @@ fn main() -> ExitCode {
             eprintln!("second: {error}");
             ExitCode::FAILURE
         }
+    }
+}
+
+/// The listing's input of the number that is the second argument; none past the last.
+fn numbered() -> io::Result<Vec<u8>> {
+    let number = std::env::args().nth(2).and_then(|text| text.parse().ok());
+    match number.filter(|&number| number < lines::INPUTS) {
+        Some(number) => Ok(lines::input(number)),
+        None => Err(io::Error::other("no input of that number")),
     }
 }
 

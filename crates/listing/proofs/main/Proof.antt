@@ -1,0 +1,119 @@
+-- `listing::main` is safe and ends: the buffers keep their lengths, and the turns fall.
+use borrow.Author.Needs.{needs}
+use mathlib.Core.Path.{_≡_}
+use lib.ListN.{length}
+use Rattle.listing.proofs.main.Statement.{statement}
+use Rattle.listing.proofs.main.Tie as tie
+
+abbrev Inv-loop : tie.InvT-loop
+Inv-loop room₀ line₀ piece₀ state₀ turns₀ room line piece state turns = (length room ≡ 3076) × ((length line ≡ 65) × (length piece ≡ 65536))
+
+abbrev μ-loop : tie.MeasureT-loop
+μ-loop room₀ line₀ piece₀ state₀ turns₀ room line piece state turns = turns
+
+large-buffer-requires : tie.Need-large-buffer-requires Inv-loop μ-loop
+large-buffer-requires c κs = search needs
+
+slice-aggregate-begin : tie.Need-slice-aggregate-begin Inv-loop μ-loop
+slice-aggregate-begin c = search needs
+
+begin-requires : tie.Need-begin-requires Inv-loop μ-loop
+begin-requires c κs = search needs
+
+loop-holds : tie.Need-loop-holds Inv-loop μ-loop
+loop-holds c = search needs
+
+slice-aggregate-read : tie.Need-slice-aggregate-read Inv-loop μ-loop
+slice-aggregate-read c = search needs
+
+read-requires : tie.Need-read-requires Inv-loop μ-loop
+read-requires c κs = search needs
+
+slice-aggregate-count : tie.Need-slice-aggregate-count Inv-loop μ-loop
+slice-aggregate-count c = search needs
+
+count-requires : tie.Need-count-requires Inv-loop μ-loop
+count-requires c κs = search needs
+
+loop-less : tie.Need-loop-less Inv-loop μ-loop
+loop-less c = search needs
+
+loop-again : tie.Need-loop-again Inv-loop μ-loop
+loop-again c = search needs
+
+slice-aggregate-piece : tie.Need-slice-aggregate-piece Inv-loop μ-loop
+slice-aggregate-piece c = search needs
+
+slice-aggregate-piece-2 : tie.Need-slice-aggregate-piece-2 Inv-loop μ-loop
+slice-aggregate-piece-2 c = search needs
+
+sub-piece : tie.Need-sub-piece Inv-loop μ-loop
+sub-piece c = search needs
+
+part-piece-start : tie.Need-part-piece-start Inv-loop μ-loop
+part-piece-start c = search needs
+
+part-piece-end : tie.Need-part-piece-end Inv-loop μ-loop
+part-piece-end c = search needs
+
+piece-requires : tie.Need-piece-requires Inv-loop μ-loop
+piece-requires c κs = search needs
+
+sub-turns : tie.Need-sub-turns Inv-loop μ-loop
+sub-turns c = search needs
+
+loop-less-2 : tie.Need-loop-less-2 Inv-loop μ-loop
+loop-less-2 c = search needs
+
+loop-again-2 : tie.Need-loop-again-2 Inv-loop μ-loop
+loop-again-2 c = search needs
+
+slice-aggregate-rest : tie.Need-slice-aggregate-rest Inv-loop μ-loop
+slice-aggregate-rest c = search needs
+
+slice-aggregate-rest-2 : tie.Need-slice-aggregate-rest-2 Inv-loop μ-loop
+slice-aggregate-rest-2 c = search needs
+
+rest-requires : tie.Need-rest-requires Inv-loop μ-loop
+rest-requires c κs = search needs
+
+slice-aggregate-show : tie.Need-slice-aggregate-show Inv-loop μ-loop
+slice-aggregate-show c = search needs
+
+show-requires : tie.Need-show-requires Inv-loop μ-loop
+show-requires c κs = search needs
+
+returns : tie.Need-returns Inv-loop μ-loop
+returns c = search needs
+
+pub main-spec : {M : Type 1} → statement M
+main-spec =
+    tie.close
+    (tie.spec
+    Inv-loop
+    μ-loop
+    large-buffer-requires
+    slice-aggregate-begin
+    begin-requires
+    loop-holds
+    slice-aggregate-read
+    read-requires
+    slice-aggregate-count
+    count-requires
+    loop-less
+    loop-again
+    slice-aggregate-piece
+    slice-aggregate-piece-2
+    sub-piece
+    part-piece-start
+    part-piece-end
+    piece-requires
+    sub-turns
+    loop-less-2
+    loop-again-2
+    slice-aggregate-rest
+    slice-aggregate-rest-2
+    rest-requires
+    slice-aggregate-show
+    show-requires
+    returns)

@@ -1,0 +1,50 @@
+-- Lines and the listing worked by hand: those of document 01, and lines at the edges of what can be read.
+use Prim.Native.String.{String}
+use mathlib.Core.Path.{_≡_}
+use mathlib.Core.List.{List, [], _∷_, map}
+use lib.IntN.{pos, negsuc}
+use Rattle.rule.specs.ByHand.{bucket}
+use Rattle.text.specs.declared.Line.{Line}
+use Rattle.text.specs.declared.Line.the-variants.{Steps, Late, Alone, Pair, Unreadable}
+use Rattle.text.specs.Signs.{ascii}
+use Rattle.text.specs.Reading.{lineOf}
+use Rattle.text.specs.Printing.{listing, refused}
+
+unfoldable pub lines : List (String × Line)
+lines =
+    ("steps 1", Steps 1)
+    ∷ ("late 2", Late 2)
+    ∷ ("6 2", Pair 6 (pos 2))
+    ∷ ("-3", Alone (negsuc 2))
+    ∷ ("steps 4294967295", Steps 4294967295)
+    ∷ ("steps 4294967296", Unreadable)
+    ∷ ("steps -1", Unreadable)
+    ∷ ("late -0", Late 0)
+    ∷ ("late", Unreadable)
+    ∷ ("Late 2", Unreadable)
+    ∷ ("2147483647", Alone (pos 2147483647))
+    ∷ ("2147483648", Unreadable)
+    ∷ ("-2147483648", Alone (negsuc 2147483647))
+    ∷ ("-2147483649", Unreadable)
+    ∷ ("0000000007", Alone (pos 7))
+    ∷ ("00000000007", Unreadable)
+    ∷ ("-0000000007", Alone (negsuc 6))
+    ∷ ("--7", Unreadable)
+    ∷ ("+7", Unreadable)
+    ∷ ("-", Unreadable)
+    ∷ ("", Unreadable)
+    ∷ ("1 2 3", Unreadable)
+    ∷ ("1  2", Unreadable)
+    ∷ (" 1", Unreadable)
+    ∷ ("1 ", Unreadable)
+    ∷ ("1\r", Unreadable)
+    ∷ ("1\t2", Unreadable)
+    ∷ ("-1 2", Unreadable)
+    ∷ []
+
+pub record ByHand : Type 0 where
+  pub meanings : map (λ e. lineOf (ascii (e .0))) lines ≡ map (λ e. e .1) lines
+  pub listed : listing (bucket 0 3 (pos 1) (pos 4) ∷ bucket 3 2 (pos 8) (pos 9) ∷ bucket 5 2 (pos 2) (pos 3) ∷ []) ≡ ascii "0 3 1 4 2\n3 2 8 9 8\n5 2 2 3 2\ntotal 7 3 2\n"
+  pub lowest : listing (bucket 16777215 1 (negsuc 2147483647) (negsuc 2147483647) ∷ []) ≡ ascii "16777215 1 -2147483648 -2147483648 -2147483648\ntotal 1 1 0\n"
+  pub none : listing [] ≡ ascii "total 0 0 0\n"
+  pub refusal : refused 10 14 ≡ ascii "refused 10 14\n"

@@ -1,0 +1,84 @@
+-- What a line means, its bytes given without the line feed.
+use Prim.Native.Nat.{ℕ, suc, _+_, _*_, _-_}
+use mathlib.Core.Bool.{Bool, true, false, cond, _&&_}
+use mathlib.Core.List.{List, [], _∷_}
+use lib.Dec.{eqb, leb, ltb}
+use lib.IntN.{pos, negℤ, natAbs}
+use lib.ListN.{length, take, drop}
+use Rattle.rule.specs.Room.{signed, unsigned}
+use Rattle.text.specs.declared.Number.{Number}
+use Rattle.text.specs.declared.Line.{Line}
+use Rattle.text.specs.Signs.{space, minus, nought, nine, stepsWord, lateWord}
+
+-- a line has at most so many bytes
+abbrev pub lineMost : ℕ
+lineMost = 64
+
+-- a number has at most so many digits
+abbrev pub digitsMost : ℕ
+digitsMost = 10
+
+-- ---- numbers
+
+unfoldable pub isDigit : ℕ → Bool
+isDigit b = leb nought b && leb b nine
+
+-- what digits stand for, n being what those before them do
+unfoldable pub digitsAfter : ℕ → List ℕ → Number
+digitsAfter n [] = Number.Whole (pos n)
+digitsAfter n (b ∷ l) = let r = digitsAfter (n * 10 + (b - nought)) l in cond (isDigit b) r Number.Unreadable
+
+-- 1 to 10 digits
+unfoldable pub digits : List ℕ → Number
+digits l = cond (leb 1 (length l) && leb (length l) digitsMost) (digitsAfter 0 l) Number.Unreadable
+
+unfoldable pub negated : Number → Number
+negated (Number.Whole z) = Number.Whole (negℤ z)
+negated Number.Unreadable = Number.Unreadable
+
+-- an optional minus sign and 1 to 10 digits
+unfoldable pub number : List ℕ → Number
+number [] = Number.Unreadable
+number (b ∷ l) = cond (eqb b minus) (negated (digits l)) (digits (b ∷ l))
+
+-- ---- lines: each number in the range of its field, unsigned 32 bits for a tick, B and K, signed 32 bits for a reading
+
+unfoldable pub steps : Number → Line
+steps (Number.Whole z) = cond (unsigned z) (Line.Steps (natAbs z)) Line.Unreadable
+steps Number.Unreadable = Line.Unreadable
+
+unfoldable pub late : Number → Line
+late (Number.Whole z) = cond (unsigned z) (Line.Late (natAbs z)) Line.Unreadable
+late Number.Unreadable = Line.Unreadable
+
+unfoldable pub alone : Number → Line
+alone (Number.Whole z) = cond (signed z) (Line.Alone z) Line.Unreadable
+alone Number.Unreadable = Line.Unreadable
+
+unfoldable pub pair : Number → Number → Line
+pair (Number.Whole t) (Number.Whole z) = cond (unsigned t && signed z) (Line.Pair (natAbs t) z) Line.Unreadable
+pair (Number.Whole t) Number.Unreadable = Line.Unreadable
+pair Number.Unreadable n = Line.Unreadable
+
+unfoldable pub same : List ℕ → List ℕ → Bool
+same [] [] = true
+same [] (y ∷ m) = false
+same (x ∷ l) [] = false
+same (x ∷ l) (y ∷ m) = eqb x y && same l m
+
+-- the place of the first space, the length where there is none
+unfoldable pub firstSpace : List ℕ → ℕ
+firstSpace [] = 0
+firstSpace (b ∷ l) = cond (eqb b space) 0 (suc (firstSpace l))
+
+-- the bytes before the first space and those after it
+unfoldable pub spaced : List ℕ → List ℕ → Line
+spaced before after =
+    cond (same before stepsWord) (steps (number after))
+    (cond (same before lateWord) (late (number after)) (pair (number before) (number after)))
+
+unfoldable pub lineOf : List ℕ → Line
+lineOf l =
+    cond (ltb lineMost (length l)) Line.Unreadable
+    (cond (eqb (firstSpace l) (length l)) (alone (number l))
+    (spaced (take (firstSpace l) l) (drop (suc (firstSpace l)) l)))

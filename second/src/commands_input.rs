@@ -268,7 +268,7 @@ impl Script {
     /// A line for each reading, in every order, with few runs allowed and with many; then an in-order reading.
     fn short_late_traces(&mut self) {
         for (steps, gaps) in [(1, 1), (1, 2), (1, 9), (2, 3), (3, 5), (5, 20)] {
-            for order in 0..5 {
+            for order in 0..8 {
                 for shape in [2, 4, 5] {
                     self.open_late(steps, gaps);
                     self.feed_late(order, shape, 6 * steps + 20, 1);
@@ -282,7 +282,7 @@ impl Script {
     /// Far past the limit, B and K up to their bounds; of random ticks ever more are taken.
     fn long_late_traces(&mut self) {
         for (steps, gaps) in [(1, 256), (4, 16), (32, 8), (100, 200), (256, 1), (256, 256)] {
-            for order in [0, 1, 2, 3, 20, 255] {
+            for order in [0, 1, 2, 3, 4, 5, 20, 255] {
                 for shape in [2, 4] {
                     self.open_late(steps, gaps);
                     let count = 3 * steps + 300;

@@ -19,8 +19,11 @@
 //! |---|---|
 //! | 0 up | the turn |
 //! | 1 down | 16,777,215 less the turn, modulo 2^32 |
-//! | 2 shuffled | of each eight turns the first, plus five times the turn's place among the eight, modulo 8 |
-//! | 3 and above, by chance | the noise's upper 16 bits by 64 times one more than the order, the remainder |
+//! | 2 displaced a little | of each eight turns the first, plus five times the turn's place among the eight, modulo 8 |
+//! | 3 every second first | of each sixteen ticks the even ones, then the odd ones |
+//! | 4 from both ends | of each 64 ticks the first, the last, the second, the last but one, and so on to the middle |
+//! | 5 bursty | of each 32 ticks the ninth to the last, then the first eight together |
+//! | 6 and above, by chance | the noise's upper 16 bits by 64 times one more than the order, the remainder |
 
 #[derive(Clone, Copy)]
 pub enum Shape {
@@ -75,6 +78,10 @@ impl Reading {
             0 => self.turn,
             1 => 16_777_215_u32.wrapping_sub(self.turn),
             2 => (self.turn & !7) + (self.turn & 7) * 5 % 8,
+            3 => (self.turn & !15) | (self.turn & 7) << 1 | (self.turn >> 3 & 1),
+            4 if self.turn & 1 == 0 => (self.turn & !63) + (self.turn & 63) / 2,
+            4 => (self.turn | 63) - (self.turn & 63) / 2,
+            5 => (self.turn & !31) + (self.turn + 8) % 32,
             _ => (self.noise >> 16) % (64 * (u32::from(order) + 1)),
         }
     }

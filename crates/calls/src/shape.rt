@@ -36,12 +36,38 @@ pub fn reading(shape: u8, seed: u32, turn: u32, noise: u32) -> i32 {
     signed32(shaped(shape, seed, turn, noise))
 }
 
-// From the first tick up, from the last tick down, each eight shuffled, or by the noise among 64 ticks for each number up to the order's.
+// Of each sixteen ticks every second one first, then those between.
+fn alternate(turn: u32) -> u32 {
+    turn - turn % 16 + turn % 8 * 2 + turn % 16 / 8
+}
+
+// Of each 64 ticks from both ends to the middle.
+fn inward(turn: u32) -> u32 {
+    if turn % 2 == 0 {
+        turn - turn % 64 + turn % 64 / 2
+    } else {
+        turn - turn % 64 + (63 - turn % 64 / 2)
+    }
+}
+
+// Of each 32 ticks the first eight come together, after the others.
+fn bursty(turn: u32) -> u32 {
+    if turn % 32 < 24 {
+        turn - turn % 32 + (turn % 32 + 8)
+    } else {
+        turn - 24
+    }
+}
+
+// From the first tick up, from the last tick down, each eight displaced a little, by the three orders above, or by the noise among 64 ticks for each number up to the order's.
 pub fn tick(order: u8, turn: u32, noise: u32) -> u32 {
     match order {
         0 => turn,
         1 => std::num::wrapping_sub_u32(16777215, turn),
         2 => turn - turn % 8 + turn % 8 * 5 % 8,
+        3 => alternate(turn),
+        4 => inward(turn),
+        5 => bursty(turn),
         _ => noise / 65536 % (64 + order as u32 * 64),
     }
 }

@@ -61,5 +61,8 @@ fn the_shapes_are_as_described() {
     assert_eq!(ticks(0), [0, 1, 2, 3, 4, 5, 6, 7, 8, 9]);
     assert_eq!(ticks(1)[..3], [16_777_215, 16_777_214, 16_777_213]);
     assert_eq!(ticks(2), [0, 5, 2, 7, 4, 1, 6, 3, 8, 13]);
-    assert_eq!(ticks(3)[0], 4);
+    assert_eq!(ticks(3), [0, 2, 4, 6, 8, 10, 12, 14, 1, 3]);
+    assert_eq!(ticks(4), [0, 63, 1, 62, 2, 61, 3, 60, 4, 59]);
+    assert_eq!(ticks(5), [8, 9, 10, 11, 12, 13, 14, 15, 16, 17]);
+    assert_eq!(ticks(6)[0], 4);
 }

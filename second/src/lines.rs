@@ -36,17 +36,39 @@ const ODD: [&str; 26] = [
     "7 99999999999",
 ];
 
+/// Headers that are refused, at the bounds of B and K, out of range, repeated or out of place.
+const HEADERS: [&str; 10] = [
+    "steps 0",
+    "steps 257",
+    "steps -0",
+    "steps 4294967296",
+    "late 0",
+    "late 300",
+    "steps 2\nlate 257",
+    "steps 4\nsteps 4",
+    "late 2\nsteps 3",
+    "late 3\nlate 3",
+];
+
+/// Ticks of a late trace that are past the last, or past the field.
+const TICKS: [&str; 3] = ["16777216 1", "4294967295 1", "4294967296 1"];
+
 /// The input of a number, as bytes; the last line lacks its line feed in every third.
 pub fn input(number: u64) -> Vec<u8> {
     let mut random = Random::new(number * 2 + 1);
     let mut text = String::new();
     let late = number % 2 == 1;
+    if number % 8 == 2 {
+        let header = HEADERS[(number / 8) as usize % HEADERS.len()];
+        return format!("{header}\n5\n").into_bytes();
+    }
     if number % 4 < 3 {
         writeln!(text, "steps {}", 1 + random.below(12)).expect("a string takes any text");
     }
     if late {
         writeln!(text, "late {}", 1 + random.below(6)).expect("a string takes any text");
     }
+    let mask = random.below(4);
     let readings = random.below(90);
     let odd = if number % 5 == 0 {
         None
@@ -55,7 +77,12 @@ pub fn input(number: u64) -> Vec<u8> {
     };
     for index in 0..readings {
         if odd == Some(index) {
-            text.push_str(ODD[random.below(ODD.len() as u64) as usize]);
+            let line = if late && number % 3 == 0 {
+                random.choice(&TICKS)
+            } else {
+                random.choice(&ODD)
+            };
+            text.push_str(line);
             text.push('\n');
         }
         let value = match number % 3 {
@@ -67,7 +94,7 @@ pub fn input(number: u64) -> Vec<u8> {
             let tick = if number % 7 == 0 {
                 random.below(40)
             } else {
-                index ^ random.below(4)
+                index ^ mask
             };
             writeln!(text, "{tick} {value}").expect("a string takes any text");
         } else {

@@ -22,7 +22,7 @@ use Rattle.rule.specs.Table.{Table, accept, holders, holding, holds, limit, nee
 use Rattle.rule.proofs.Ruling.{Ruled}
 use Rattle.rule.proofs.Tables.{held-within, one}
 use Rattle.rule.proofs.Whole.{by-test}
-use Rattle.room.proofs.Laying.{length-slots, slots-laid}
+use Rattle.slots.proofs.Laying.{length-slots, slots-laid}
 use Rattle.room.proofs.Placing.{held-counts}
 use Rattle.rule.proofs.Signed.{signed-fits}
 use Rattle.room.proofs.Sounding.{Facts, sound-facts, sound-ordered, steps-bounds}

@@ -1,3 +1,4 @@
 -- Laws that belong to no one function.
 pub mod Outcomes
 pub mod Keeping
+pub mod Answering

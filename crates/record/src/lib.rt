@@ -10,6 +10,8 @@ ghost use Rattle.rule.specs.Table.{readings, runs};
 ghost use Rattle.record.specs.Files.{meets, placeOr, put};
 use rule::Bucket;
 use rule::Kind;
+use rule::RECORD;
+use rule::TICKS;
 use rule::follows;
 use rule::starts_run;
 
@@ -73,7 +75,7 @@ pub fn read(file: &[u8], at: usize) -> Bucket
     requires { ⌜ recordWidth * suc at ≤ length (now file) ⌝ }
     ensures { λ r. ⌜ r ≡ recordAt (now (file .entry)) at ⌝ }
 {
-    let from = 16 * at;
+    let from = RECORD * at;
     Bucket {
         start: word(file, from),
         count: word(file, from + 4),
@@ -87,7 +89,7 @@ pub fn write(out: &mut [u8], at: usize, b: Bucket)
     requires { ⌜ recordWidth * suc at ≤ length (now out) ⌝ }
     ensures { λ _. ⌜ now (out .exit) ≡ put (now (out .entry)) at b ⌝ }
 {
-    let from = 16 * at;
+    let from = RECORD * at;
     put_word(out, from, b.start);
     put_word(out, from + 4, b.count);
     put_word(out, from + 8, bits(b.least));
@@ -100,7 +102,7 @@ pub(crate) fn meets(rule: usize, kind: Kind, end: usize, b: Bucket) -> bool
 {
     match rule {
         1 => 1 <= b.count,
-        2 => b.end() <= 16777216,
+        2 => b.end() <= TICKS,
         3 => b.least <= b.largest,
         4 => b.count != 1 || b.least == b.largest,
         5 => follows(kind, end, b),
@@ -112,7 +114,7 @@ pub(crate) fn meets(rule: usize, kind: Kind, end: usize, b: Bucket) -> bool
 pub fn first_fault(kind: Kind, file: &[u8]) -> usize
     ensures { λ r. ⌜ r ≡ placeOr (length (now (file .entry)) / recordWidth) (firstFault kind 0 0 (recordsOf (now (file .entry)))) ⌝ }
 {
-    let n = file.len() / 16;
+    let n = file.len() / RECORD;
     let mut end = 0;
     let mut i = 0;
     let bad = 'records: loop {
@@ -144,7 +146,7 @@ pub fn counts(file: &[u8]) -> Counted
     requires { ⌜ readings (recordsOf (now file)) ≤ ticks ⌝ }
     ensures { λ r. ⌜ (r .runs ≡ runs (recordsOf (now (file .entry)))) × (r .readings ≡ readings (recordsOf (now (file .entry)))) ⌝ }
 {
-    let n = file.len() / 16;
+    let n = file.len() / RECORD;
     // no record starts there, so the first begins a run
     let mut end = 4294967296;
     let mut runs = 0;

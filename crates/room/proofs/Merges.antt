@@ -10,10 +10,10 @@ use Rattle.rule.specs.Numbers.{word}
 use Rattle.rule.specs.Room.{laid, slots}
 use Rattle.rule.specs.Table.{Choice, Table, nothing, pair, cheapest, limit, merge, mergeAt, mergeOf, readings, runs, settle}
 use Rattle.rule.proofs.Merging.{Answers, no-pair, a-pair, answers, lone-runs, merge-length, merge-readings, merge-runs, settle-merges, settle-rests}
-use Rattle.room.specs.Slots.{Filled, Settling, placeOf}
+use Rattle.slots.specs.Slots.{Filled, Settling, placeOf}
 use Rattle.rule.proofs.Fitting.{Fitted, fitted-merge}
-use Rattle.room.proofs.Fitting.{filled-laid, fitted-slots}
-use Rattle.room.proofs.Laying.{flat-slots, laid-over, laid-within, length-laid, length-slots, slots-laid}
+use Rattle.slots.proofs.Fitting.{filled-laid, fitted-slots}
+use Rattle.slots.proofs.Laying.{flat-slots, laid-over, laid-within, length-laid, length-slots, slots-laid}
 
 -- with fewer runs than buckets, the place of the cheapest neighbours is that of two buckets, and a merge is one at that place
 pub cheapest-place : (t : Table) → runs t < length t → (placeOf (cheapest 0 t) + 1 < length t) × (mergeAt (placeOf (cheapest 0 t)) t ≡ merge t)

@@ -22,10 +22,10 @@ use Rattle.rule.specs.Rules.{equal, ruled}
 use Rattle.rule.specs.Table.{Table, Ordered, cheapest, limit, limitOver, merge, mergeOf, needed, readings, runs, settle, Choice, nothing, pair}
 use Rattle.rule.proofs.Merging.{Enough, merge-readings, settle-keeps, settle-length, settle-runs}
 use Rattle.rule.proofs.Ruling.{Ruled, and-left, and-right, facts-ruled, in-order-runs, ordered-readings, ruled-end, ruled-facts, ruled-ordered, settle-ruled}
-use Rattle.room.specs.Slots.{Filled, Settling}
+use Rattle.slots.specs.Slots.{Filled, Settling}
 use Rattle.rule.proofs.Fitting.{Fitted, fitted-merge}
-use Rattle.room.proofs.Fitting.{filled-laid}
-use Rattle.room.proofs.Laying.{laid-more, length-flat, length-laid, slots-laid}
+use Rattle.slots.proofs.Fitting.{filled-laid}
+use Rattle.slots.proofs.Laying.{laid-more, length-flat, length-laid, slots-laid}
 
 pub record Facts (s : State) (l : List ℤ) : Type 0 where
   pub steps-good : stepsGood (s .settings) ≡ true

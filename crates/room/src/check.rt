@@ -8,13 +8,16 @@ ghost use lib.Dec.{eqb};
 ghost use Rattle.rule.specs.Rules.{ruled, rules};
 ghost use Rattle.rule.specs.Room.{allOf, allZero, gapsGood, ranged, runsAllowed, signed, slotRanged, slots, sound, unsigned};
 ghost use Rattle.rule.specs.Table.{limit, readings, runs, runsAfter};
-use crate::slots::read;
 use rule::Bucket;
 use rule::Kind;
+use rule::MOST;
+use rule::SLOT;
 use rule::Settings;
 use rule::State;
+use rule::TICKS;
 use rule::follows;
 use rule::starts_run;
+use slots::read;
 
 pub(crate) fn unsigned(z: i64) -> bool
     ensures { λ r. ⌜ r ≡ unsigned z ⌝ }
@@ -33,7 +36,7 @@ pub(crate) fn slot_ranged(room: &[i64], at: usize) -> bool
     requires { ⌜ slotWidth * suc at ≤ length (now room) ⌝ }
     ensures { λ r. ⌜ r ≡ slotRanged (now (room .entry)) at ⌝ }
 {
-    let from = 4 * at;
+    let from = SLOT * at;
     if !unsigned(room[from]) {
         return false;
     }
@@ -68,7 +71,7 @@ pub(crate) fn meets(kind: Kind, end: usize, b: Bucket) -> bool
     if b.count < 1 {
         return false;
     }
-    if 16777216 < b.end() {
+    if TICKS < b.end() {
         return false;
     }
     if b.largest < b.least {
@@ -87,7 +90,7 @@ pub fn gaps_good(kind: Kind, gaps: usize) -> bool
 {
     match kind {
         Kind::InOrder => gaps == 0,
-        Kind::Late => 1 <= gaps && gaps <= 256,
+        Kind::Late => 1 <= gaps && gaps <= MOST,
     }
 }
 
@@ -167,7 +170,7 @@ pub fn sound(s: State, room: &[i64]) -> bool
     if settings.steps < 1 {
         return false;
     }
-    if 256 < settings.steps {
+    if MOST < settings.steps {
         return false;
     }
     if !gaps_good(kind, settings.gaps) {
@@ -177,7 +180,7 @@ pub fn sound(s: State, room: &[i64]) -> bool
         return false;
     }
     let needed = limit(settings, settings.gaps) + 1;
-    if room.len() < 4 * needed {
+    if room.len() < SLOT * needed {
         return false;
     }
     if limit(settings, s.runs) < s.used {
@@ -186,5 +189,5 @@ pub fn sound(s: State, room: &[i64]) -> bool
     if !scan(kind, s.used, s.runs, s.readings, room) {
         return false;
     }
-    all_zero(room, 4 * s.used, 4 * needed)
+    all_zero(room, SLOT * s.used, SLOT * needed)
 }

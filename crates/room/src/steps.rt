@@ -1,7 +1,7 @@
 // The merges that a reading asks for, the place of a tick among the slots in use, and what a reading there touches.
 ghost use mathlib.Core.Path.{_≡_};
 ghost use mathlib.Core.Bool.{_&&_};
-ghost use Prim.Native.Nat.{ℕ, _+_, _*_, _-_, _<_, _≤_, suc};
+ghost use Prim.Native.Nat.{_+_, _*_, _-_, _<_, _≤_, suc};
 ghost use lib.Dec.{eqb, ltb};
 ghost use lib.IntN.{ℤ};
 ghost use lib.ListN.{length};
@@ -9,12 +9,13 @@ ghost use Rattle.rule.specs.Bucket.{end};
 ghost use Rattle.rule.specs.Calls.{isHeld};
 ghost use Rattle.rule.specs.Room.{laid, slot, slots};
 ghost use Rattle.rule.specs.Table.{holders, holding, insert, runs, settle, single};
-ghost use Rattle.room.specs.Slots.{Filled, Placed, Settling, position};
+ghost use Rattle.slots.specs.Slots.{Filled, Placed, Settling, position};
 use crate::check::limit;
-use crate::moves::merge;
-use crate::slots::cheapest;
-use crate::slots::read;
+use rule::SLOT;
 use rule::Settings;
+use slots::cheapest;
+use slots::moves::merge;
+use slots::read;
 
 // While the buckets are more than the limit, the cheapest neighbours are merged. Answers how many buckets are left; the slots freed are cleared.
 pub fn settle(s: Settings, runs: usize, room: &mut [i64], used: usize) -> usize
@@ -39,7 +40,7 @@ pub fn find(room: &[i64], used: usize, tick: u32) -> usize
     let wanted = tick as i64;
     let mut i = 0;
     while i < used {
-        if wanted < room[4 * i] {
+        if wanted < room[SLOT * i] {
             return i;
         }
         i += 1;
@@ -48,9 +49,9 @@ pub fn find(room: &[i64], used: usize, tick: u32) -> usize
 }
 
 // The tick lies in the bucket before place `at`, which is the tick's place.
-pub fn held(room: &[i64], at: usize, tick: u32) -> bool
-    requires { ⌜ Filled (now room) at ⌝ }
-    ensures { λ r. ⌜ ((used : ℕ) → Placed (now (room .entry)) used at tick → r ≡ isHeld (holding tick (slots (now (room .entry)) 0 used))) ⌝ }
+pub fn held(room: &[i64], used: usize, at: usize, tick: u32) -> bool
+    requires { ⌜ Placed (now room) used at tick ⌝ }
+    ensures { λ r. ⌜ r ≡ isHeld (holding tick (slots (now (room .entry)) 0 used)) ⌝ }
 {
     if at == 0 {
         return false;

@@ -1,24 +1,25 @@
 -- The row as the loop writes it, one place after the other, and what the answer says of the trace.
 use Prim.Native.Nat.{ℕ, suc, _+_, _*_, _≤_, _<_}
-use mathlib.Core.Path.{_≡_, refl, sym, _∙_}
+use mathlib.Core.Path.{_≡_, refl, sym, ap, _∙_}
 use mathlib.Core.Bool.{true}
-use mathlib.Core.List.{List}
+use mathlib.Core.List.{List, _++_}
 use native.Mathlib.Omega.{arith}
-use borrow.Author.Tests.{ltb-false}
+use borrow.Author.Tests.{le-ltb, ltb-false}
 use lib.Dec.{ltb}
 use lib.IntN.{ℤ}
-use lib.ListN.{length, drop, getD, set, length-append, length-drop}
-use lib.Seq.{append-snoc, drop-cons, set-at}
+use lib.ListN.{length, take, drop, getD, set, length-append, length-drop}
+use lib.Seq.{append-snoc, drop-cons, set-at, take-at}
 use Rattle.rule.specs.declared.Refusal.{Refusal}
 use Rattle.rule.specs.declared.State.{State}
+use Rattle.rule.specs.declared.Written.{Written}
 use Rattle.rule.specs.Calls.{Verdict, accepted, refuse, refused, rowOutcome, writeVerdict, wrote}
-use Rattle.rule.specs.Room.{slot, slotRanged, slots, sound, tableOf}
+use Rattle.rule.specs.Room.{flat, slot, slotRanged, slots, sound, tableOf}
 use Rattle.rule.specs.Table.{Table}
 use Rattle.rule.proofs.Whole.{by-test}
-use Rattle.room.proofs.Laying.{length-slots, slots-split}
-use Rattle.room.proofs.Reading.{filled}
+use Rattle.slots.proofs.Laying.{flat-slots, length-flat, length-slots, slots-split}
+use Rattle.slots.proofs.Reading.{filled}
 use Rattle.room.proofs.Sounding.{sound-facts, sound-filled}
-use Rattle.row.specs.Parts.{answer, number, rowAnswer, upTo}
+use Rattle.row.specs.Parts.{answer, number, numbersOutcome, rowAnswer, upTo}
 
 pub none-yet : (l : List ℤ) (out : Table) → out ≡ upTo l 0 out
 unfolding slots
@@ -58,3 +59,12 @@ module _ (s : State) (l : List ℤ) where
   pub all-written : (out : Table) → let a = rowAnswer s l (length out) in (a, upTo l (number a) out) ≡ rowOutcome s l out
   unfolding answer number wrote slots
   all-written out = verdict (length out) (λ v. (answer v, upTo l (number (answer v)) out) ≡ wrote (λ t. t) out v) (λ r. refl) (λ e h. rw (length-slots l 0 (s .used)))
+
+  -- the used numbers of a sound room are the buckets' own
+  pub numbers-written : (out : List ℤ) → sound s l ≡ true → 4 * s .used ≤ length out → numbersOutcome s l out ≡ (Written.Buckets (s .used), take (4 * s .used) l ++ drop (4 * s .used) out)
+  unfolding writeVerdict refuse wrote
+  numbers-written out e h =
+      let f = sound-filled s l (sound-facts s l e) in
+      let long : length (flat (tableOf s l)) ≡ 4 * s .used = length-flat (tableOf s l) ∙ ap (λ (n : ℕ). 4 * n) (length-slots l 0 (s .used)) in
+      let front : take (4 * s .used) l ≡ flat (tableOf s l) = ap (take (4 * s .used)) (sym (flat-slots (s .used) l (f .there) (f .ranges))) ∙ take-at (flat (tableOf s l)) (drop (4 * s .used) l) (4 * s .used) long in
+      rw (e, le-ltb (length out) (4 * s .used) h, front, length-slots l 0 (s .used), long)

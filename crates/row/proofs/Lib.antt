@@ -1,3 +1,4 @@
 -- Laws that belong to no one function.
 pub mod Filling
 pub mod Places
+pub mod OneOutcome

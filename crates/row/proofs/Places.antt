@@ -13,7 +13,7 @@ use Rattle.rule.specs.declared.Written.{Written}
 use Rattle.rule.specs.Calls.{refuse, rowOutcome, wrote}
 use Rattle.rule.specs.Room.{slot, slots, tableOf}
 use Rattle.rule.specs.Table.{Table}
-use Rattle.room.proofs.Laying.{length-slots}
+use Rattle.slots.proofs.Laying.{length-slots}
 use Rattle.row.specs.declared.Part.{Part}
 use Rattle.row.specs.Parts.{number, part, parted, partOutcome, rowAnswer}
 use Rattle.row.proofs.Filling.{all-written, as-long, number-fits, verdict}

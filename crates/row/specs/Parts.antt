@@ -1,5 +1,5 @@
 -- What the row answers where the output has so many places, and what each place of it holds.
-use Prim.Native.Nat.{ℕ, zero, suc}
+use Prim.Native.Nat.{ℕ, zero, suc, _*_}
 use mathlib.Core.Bool.{not}
 use mathlib.Core.List.{List, [], _∷_, _++_}
 use lib.IntN.{ℤ}
@@ -8,8 +8,9 @@ use Rattle.rule.specs.declared.Refusal.{Refusal}
 use Rattle.rule.specs.declared.State.{State}
 use Rattle.rule.specs.declared.Written.{Written}
 use Rattle.rule.specs.declared.Written.the-variants.{Buckets, Refused}
-use Rattle.rule.specs.Calls.{Verdict, accepted, refuse, refused, writeVerdict}
-use Rattle.rule.specs.Room.{slots, sound, tableOf}
+use Rattle.rule.specs.Numbers.{slotWidth}
+use Rattle.rule.specs.Calls.{Verdict, accepted, refuse, refused, wrote, writeVerdict}
+use Rattle.rule.specs.Room.{flat, slots, sound, tableOf}
 use Rattle.rule.specs.Table.{Table}
 use Rattle.row.specs.declared.Part.{Part}
 
@@ -44,3 +45,7 @@ parted (accepted t) i = part t i
 -- refusal 4, or place i of the buckets of state and room
 unfoldable pub partOutcome : State → List ℤ → ℕ → Part
 partOutcome s l i = parted (refuse (not (sound s l)) Refusal.Unsound (accepted (tableOf s l))) i
+
+-- the row in numbers, four to a bucket as in the room
+abbrev pub numbersOutcome : State → List ℤ → List ℤ → Written × List ℤ
+numbersOutcome s l out = wrote flat out (writeVerdict s l (slotWidth * s .used) (length out))

@@ -7,3 +7,5 @@ pub mod Ruling
 pub mod Signed
 pub mod Fitting
 pub mod ByHand
+pub mod Determined
+pub mod OneOutcome

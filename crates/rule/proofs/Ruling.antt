@@ -1,5 +1,5 @@
 -- The record rules as facts, and that merging and inserting keep them.
-use Prim.Native.Nat.{ℕ, zero, suc, _+_, _≤_, _<_}
+use Prim.Native.Nat.{ℕ, zero, suc, _+_, _-_, _≤_, _<_}
 use mathlib.Core.Path.{_≡_, refl, sym, ap, _∙_, subst}
 use mathlib.Core.Bool.{Bool, true, false, cond, not, _&&_, _||_, false≢true}
 use mathlib.Core.List.{List, [], _∷_, _++_}
@@ -7,7 +7,7 @@ use native.Mathlib.Omega.{arith}
 use borrow.Author.Tests.{leb-true, le-leb, eqb-true, eq-eqb, le-ltb, lt-ltb, ltb-false, ne-eqb}
 use lib.Dec.{leb, ltb, eqb}
 use lib.IntN.{ℤ}
-use lib.ListN.{length}
+use lib.ListN.{length, take}
 use lib.Signed.{leZ}
 use Rattle.rule.specs.declared.Bucket.{Bucket}
 use Rattle.rule.specs.declared.Kind.{Kind}
@@ -16,7 +16,7 @@ use Rattle.rule.specs.declared.Settings.{Settings}
 use Rattle.rule.specs.Numbers.{ticks}
 use Rattle.rule.specs.Bucket.{end, neighbours, union}
 use Rattle.rule.specs.Table.{Table, Ordered, holders, holds, insert, lastEnd, merge, nextTick, readings, runs, runsAfter, settle, single}
-use Rattle.rule.specs.Rules.{Fault, broken, equal, faultAt, firstFalse, firstFault, follows, isWhole, ruled, rules}
+use Rattle.rule.specs.Rules.{Fault, fault, broken, equal, faultAt, firstFalse, firstFault, follows, isWhole, ruled, rules}
 use Rattle.rule.specs.Room.{allOf}
 use Rattle.rule.proofs.Whole.{by-test, whole}
 use Rattle.rule.proofs.Errors.{larger-left, leZ-refl, lesser-left}
@@ -195,3 +195,26 @@ late-ruled e tick v (a ∷ t) r h k free =
     (λ behind.
     let past : end a ≤ tick = omega (arith, holds-counts tick a, leb-counts (end a) tick, leb-counts (a .start) tick) in
     (r .0, late-ruled (end a) tick v t (r .1) past k (omega arith)))
+
+-- ---- the first fault is the first
+
+fault-place : {i j q r : ℕ} → _≡_ {A = Fault} (fault i q) (fault j r) → i ≡ j
+fault-place e = cc
+
+first-step : (k : Kind) (e i : ℕ) (b : Bucket) (t : Table) (j r q : ℕ) → broken k e b ≡ q → faultAt i q (firstFault k (end b) (suc i) t) ≡ fault j r
+    → (firstFault k (end b) (suc i) t ≡ fault j r → (suc i ≤ j) × (isWhole (firstFault k (end b) (suc i) (take (j - suc i) t)) ≡ true)) → (i ≤ j) × (isWhole (firstFault k e i (take (j - i) (b ∷ t))) ≡ true)
+unfolding faultAt firstFault isWhole
+first-step k e i b t j r zero h p more =
+    let w = more p in
+    let next : j - i ≡ suc (j - suc i) = omega (arith, w .0) in
+    (omega (arith, w .0), rw (next, h) (w .1))
+first-step k e i b t j r (suc q) h p more =
+    let here : i ≡ j = fault-place p in
+    let none : j - i ≡ 0 = omega arith in
+    (omega arith, rw none refl)
+
+-- the records before the first fault meet the rules
+pub first-is-first : (k : Kind) (e i : ℕ) (t : Table) (j r : ℕ) → firstFault k e i t ≡ fault j r → (i ≤ j) × (isWhole (firstFault k e i (take (j - i) t)) ≡ true)
+unfolding firstFault
+first-is-first k e i [] j r p = absurd (let z : _≡_ {A = ℕ} 0 1 = cc in omega arith)
+first-is-first k e i (b ∷ t) j r p = first-step k e i b t j r (broken k e b) refl p (first-is-first k (end b) (suc i) t j r)

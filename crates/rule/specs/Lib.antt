@@ -7,4 +7,5 @@ pub mod Room
 pub mod Bytes
 pub mod Answers
 pub mod Calls
+pub mod Outcomes
 pub mod ByHand

@@ -7,6 +7,15 @@ ghost use Rattle.rule.specs.Bucket.{distance, end, error, larger, lesser
 ghost use Rattle.rule.specs.Answers.{number, place};
 ghost use Rattle.rule.specs.Rules.{follows};
 
+// Ticks are 0 to one less than this.
+pub const TICKS: usize = 16777216;
+// B and K are 1 to this.
+pub const MOST: usize = 256;
+// Numbers of a slot: start, count, least, largest.
+pub const SLOT: usize = 4;
+// Bytes of a saved record.
+pub const RECORD: usize = 16;
+
 // A start tick, a count of ticks, and the least and largest reading among exactly those ticks.
 pub struct Bucket {
     pub start: u32,

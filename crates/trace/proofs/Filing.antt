@@ -26,10 +26,10 @@ use Rattle.rule.specs.Table.{Table, limit, needed, readings, runs}
 use Rattle.rule.proofs.Ruling.{Ruled, facts-ruled, ordered-readings, ruled-end, ruled-facts, ruled-ordered}
 use Rattle.record.specs.Files as files
 use Rattle.record.proofs.RoundTrip.{length-saved, put-saved}
-use Rattle.room.specs.Slots.{put}
-use Rattle.room.proofs.Shifting.{drop-past}
+use Rattle.slots.specs.Slots.{put}
+use Rattle.slots.proofs.Shifting.{drop-past}
 use Rattle.room.proofs.Sounding.{limit-gaps}
-use Rattle.room.proofs.Laying.{flat-append, length-flat, length-slots, slots-split}
+use Rattle.slots.proofs.Laying.{flat-append, length-flat, length-slots, slots-split}
 use Rattle.trace.specs.declared.settings.Admitted.{Admitted}
 use Rattle.trace.specs.declared.files.Inspected.{Inspected}
 use Rattle.trace.specs.Verdicts.{admission, fileVerdict, inspection}

@@ -18,7 +18,7 @@ use Rattle.rule.specs.Room.{runsAllowed, sound, tableOf}
 use Rattle.rule.specs.Rules.{ruled}
 use Rattle.rule.specs.Table.{Table, insert, nextTick, runs, runsAfter, single}
 use Rattle.rule.proofs.Ruling.{Ruled, facts-ruled, in-order-runs, insert-last, next-ruled}
-use Rattle.room.proofs.Laying.{length-slots}
+use Rattle.slots.proofs.Laying.{length-slots}
 use Rattle.room.proofs.Sounding.{sound-facts, sound-ordered}
 use Rattle.trace.specs.Ready.{Ready}
 

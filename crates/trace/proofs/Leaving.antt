@@ -20,8 +20,8 @@ use Rattle.rule.specs.Numbers.{ticks, word}
 use Rattle.rule.specs.Room.{gapsGood, laid, ranged, roomy, runsAllowed, slots, sound, stepsGood, tableOf}
 use Rattle.rule.specs.Table.{Table, accept, holding, needed, nextTick, readings, runs}
 use Rattle.rule.proofs.Ruling.{Ruled}
-use Rattle.room.specs.Slots.{position}
-use Rattle.room.proofs.Laying.{length-laid}
+use Rattle.slots.specs.Slots.{position}
+use Rattle.slots.proofs.Laying.{length-laid}
 use Rattle.room.proofs.Sounding.{facts-sound, rest-laid}
 use Rattle.trace.specs.Left.{LeavesSound, LeftBy}
 use Rattle.trace.specs.Ready.{Ready, with}

@@ -1,33 +1,27 @@
--- Each public call's contract, as the check reads it, allows one outcome: two results, and two states of what was lent, that it allows are equal.
-use mathlib.Core.Path.{_≡_, sym, _∙_}
-use mathlib.Core.List.{List}
-use lib.IntN.{ℤ}
-use borrow.Fn.Kinds.{Dens, endedOf, resT}
-use contract.Lifetimes.{Lfts}
-use denote.Ref.{now}
-use denote.Triple.Clauses.{AtExit}
-use Rattle.trace.specs.declared.Answer.{Answer}
-use Rattle.trace.proofs.Trace.open.Kinds as open-kinds
-use Rattle.trace.proofs.Trace.open.Reads as open-reads
-use Rattle.trace.proofs.Trace.next.Kinds as next-kinds
-use Rattle.trace.proofs.Trace.next.Reads as next-reads
-use Rattle.trace.proofs.Trace.late.Kinds as late-kinds
-use Rattle.trace.proofs.Trace.late.Reads as late-reads
-use Rattle.trace.proofs.Trace.lookup.Kinds as lookup-kinds
-use Rattle.trace.proofs.Trace.lookup.Reads as lookup-reads
+-- Each public function's contract allows one outcome.
+use Rattle.rule.specs.Outcomes.{OneOutcome}
+use Rattle.rule.proofs.Determined.{by-pair, by-result}
+use Rattle.trace.proofs.Trace.open as opens
+use Rattle.trace.proofs.Trace.next as next
+use Rattle.trace.proofs.Trace.late as late
+use Rattle.trace.proofs.Trace.lookup as lookup
+use Rattle.trace.proofs.Trace.save as save
+use Rattle.trace.proofs.Trace.load as load
 
-open-one : (κs : Lfts 1) (a : Dens κs open-kinds.ps) (r r′ : resT open-kinds.r κs .Denot) (s s′ : AtExit (endedOf 1 open-kinds.ps open-kinds.r) κs)
-    → open-reads.Post κs a r s → open-reads.Post κs a r′ s′ → _≡_ {A = Answer × List ℤ} (r, now (s .1 .0)) (r′, now (s′ .1 .0))
-open-one κs a r r′ s s′ p q = p ∙ sym q
+pub open-one : OneOutcome opens.ended (λ M. opens.clauses)
+open-one M 𝓤 H A mem run κs a g r r′ l l′ = by-pair 𝓤 (λ x. (l .0, (x, l .1 .1)))
 
-next-one : (κs : Lfts 1) (a : Dens κs next-kinds.ps) (r r′ : resT next-kinds.r κs .Denot) (s s′ : AtExit (endedOf 1 next-kinds.ps next-kinds.r) κs)
-    → next-reads.Post κs a r s → next-reads.Post κs a r′ s′ → _≡_ {A = Answer × List ℤ} (r, now (s .1 .0)) (r′, now (s′ .1 .0))
-next-one κs a r r′ s s′ p q = p ∙ sym q
+pub next-one : OneOutcome next.ended (λ M. next.clauses)
+next-one M 𝓤 H A mem run κs a g r r′ l l′ = by-pair 𝓤 (λ x. (l .0, (x, l .1 .1)))
 
-late-one : (κs : Lfts 1) (a : Dens κs late-kinds.ps) (r r′ : resT late-kinds.r κs .Denot) (s s′ : AtExit (endedOf 1 late-kinds.ps late-kinds.r) κs)
-    → late-reads.Post κs a r s → late-reads.Post κs a r′ s′ → _≡_ {A = Answer × List ℤ} (r, now (s .1 .0)) (r′, now (s′ .1 .0))
-late-one κs a r r′ s s′ p q = p ∙ sym q
+pub late-one : OneOutcome late.ended (λ M. late.clauses)
+late-one M 𝓤 H A mem run κs a g r r′ l l′ = by-pair 𝓤 (λ x. (l .0, (x, l .1 .1)))
 
-lookup-one : (κs : Lfts 1) (a : Dens κs lookup-kinds.ps) (r r′ : resT lookup-kinds.r κs .Denot) (s s′ : AtExit (endedOf 1 lookup-kinds.ps lookup-kinds.r) κs)
-    → lookup-reads.Post κs a r s → lookup-reads.Post κs a r′ s′ → r ≡ r′
-lookup-one κs a r r′ s s′ p q = p ∙ sym q
+pub lookup-one : OneOutcome lookup.ended (λ M. lookup.clauses)
+lookup-one M 𝓤 H A mem run κs a g r r′ l l′ = by-result 𝓤
+
+pub save-one : OneOutcome save.ended (λ M. save.clauses)
+save-one M 𝓤 H A mem run κs a g r r′ l l′ = by-pair 𝓤 (λ x. (l .0, (l .1 .0, (x, l .1 .1 .1))))
+
+pub load-one : OneOutcome load.ended (λ M. load.clauses)
+load-one M 𝓤 H A mem run κs a g r r′ l l′ = by-pair 𝓤 (λ x. (l .0, (l .1 .0, (x, l .1 .1 .1))))

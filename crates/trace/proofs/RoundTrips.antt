@@ -21,8 +21,8 @@ use Rattle.rule.specs.Table.{Table, needed, readings, runs}
 use Rattle.rule.proofs.Ruling.{Ruled}
 use Rattle.record.proofs.Faults.{length-file}
 use Rattle.record.proofs.RoundTrip.{file-fitted, length-saved, records-saved, saved-records}
-use Rattle.room.proofs.Fitting.{fitted-slots}
-use Rattle.room.proofs.Laying.{flat-slots, laid-more, laid-over, length-flat, length-slots, slots-laid}
+use Rattle.slots.proofs.Fitting.{fitted-slots}
+use Rattle.slots.proofs.Laying.{flat-slots, laid-more, laid-over, length-flat, length-slots, slots-laid}
 use Rattle.room.proofs.Sounding.{Facts, facts-sound, laid-facts, sound-facts, sound-filled, used-needed}
 use Rattle.trace.specs.Bytes.{AllBytes}
 use Rattle.trace.specs.Verdicts.{fileVerdict}

@@ -19,10 +19,10 @@ use Rattle.rule.specs.Table.{Table, accept, lastEnd, needed, readings, runs, se
 use Rattle.rule.proofs.Merging.{settle-length, settle-readings, settle-runs}
 use Rattle.rule.proofs.Ruling.{Ruled, ruled-facts}
 use Rattle.rule.proofs.Tables.{insert-length, insert-readings}
-use Rattle.room.specs.Slots.{Settling}
+use Rattle.slots.specs.Slots.{Settling}
 use Rattle.rule.proofs.Fitting.{Fitted, fitted-insert}
-use Rattle.room.proofs.Fitting.{fitted-slots}
-use Rattle.room.proofs.Laying.{laid-laid, length-slots, slots-laid}
+use Rattle.slots.proofs.Fitting.{fitted-slots}
+use Rattle.slots.proofs.Laying.{laid-laid, length-slots, slots-laid}
 use Rattle.room.proofs.Sounding.{Facts, enough, laid-needed, settled-sound, settling, sound-facts}
 use Rattle.trace.specs.Ready.{Ready, with}
 

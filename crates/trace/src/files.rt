@@ -8,7 +8,7 @@ ghost use Rattle.rule.specs.Numbers.{recordWidth, slotWidth};
 ghost use Rattle.rule.specs.Bytes.{records, saved};
 ghost use Rattle.rule.specs.Calls.{loaded, saveOutcome};
 ghost use Rattle.rule.specs.Room.{flat, gapsGood, slots, stepsGood};
-ghost use Rattle.room.specs.Slots.{Filled};
+ghost use Rattle.slots.specs.Slots.{Filled};
 ghost use Rattle.trace.specs.Answers.{answered};
 ghost use Rattle.trace.specs.Verdicts.{fileVerdict, inspection};
 use crate::Answer;
@@ -22,11 +22,13 @@ use record::first_fault;
 use room::check::limit;
 use room::check::runs_allowed;
 use room::check::sound;
-use room::moves::clear;
+use rule::RECORD;
 use rule::Refusal;
+use rule::SLOT;
 use rule::Settings;
 use rule::State;
 use rule::Written;
+use slots::moves::clear;
 
 // The runs and readings of a file that loads, or the refusal.
 pub(crate) enum Inspected {
@@ -41,7 +43,7 @@ fn save_slots(room: &[i64], used: usize, out: &mut [u8])
 {
     let mut i = 0;
     while i < used {
-        record::write(&mut *out, i, room::slots::read(room, i));
+        record::write(&mut *out, i, slots::read(room, i));
         i += 1;
     }
 }
@@ -53,7 +55,7 @@ fn load_slots(file: &[u8], count: usize, room: &mut [i64])
 {
     let mut i = 0;
     while i < count {
-        room::slots::write(&mut *room, i, record::read(file, i));
+        slots::write(&mut *room, i, record::read(file, i));
         i += 1;
     }
 }
@@ -63,11 +65,11 @@ fn inspect(s: Settings, file: &[u8]) -> Inspected
     requires { ⌜ (stepsGood s ≡ true) × (gapsGood (s .kind) (s .gaps) ≡ true) ⌝ }
     ensures { λ r. ⌜ r ≡ inspection (fileVerdict s (now (file .entry))) ⌝ }
 {
-    if file.len() % 16 != 0 {
+    if file.len() % RECORD != 0 {
         return Inspected::Refused(Refusal::Length);
     }
     let kind = s.kind;
-    let count = file.len() / 16;
+    let count = file.len() / RECORD;
     let place = first_fault(kind, file);
     if place < count {
         return Inspected::Refused(Refusal::Record(place));
@@ -91,7 +93,7 @@ impl Trace {
         if !sound(s, room) {
             return Written::Refused(Refusal::Unsound);
         }
-        if out.len() < 16 * s.used {
+        if out.len() < RECORD * s.used {
             return Written::Refused(Refusal::Short);
         }
         save_slots(room, s.used, &mut *out);
@@ -108,9 +110,9 @@ impl Trace {
             Admitted::Slots(needed) => match inspect(s, file) {
                 Inspected::Refused(r) => Answer::Refused(r),
                 Inspected::Counts(c) => {
-                    let used = file.len() / 16;
+                    let used = file.len() / RECORD;
                     load_slots(file, used, &mut *room);
-                    clear(&mut *room, 4 * used, 4 * needed);
+                    clear(&mut *room, SLOT * used, SLOT * needed);
                     Answer::Accepted(Trace {
                         state: State {
                             settings: s,

@@ -4,7 +4,7 @@ ghost use mathlib.Core.Path.{_≡_};
 ghost use Rattle.rule.specs.Calls.{found, late, lateOutcome, lookupOutcome, nextOutcome, opened, stateOf};
 ghost use Rattle.rule.specs.Room.{laid, slots, tableOf};
 ghost use Rattle.rule.specs.Table.{accept, needed, nextTick};
-ghost use Rattle.room.specs.Slots.{Filled};
+ghost use Rattle.slots.specs.Slots.{Filled};
 ghost use Rattle.trace.specs.Answers.{answered};
 ghost use Rattle.trace.specs.Ready.{Ready};
 
@@ -15,9 +15,6 @@ use crate::settings::Admitted;
 use crate::settings::admit;
 use crate::settings::kept;
 use room::check::sound;
-use room::moves::clear;
-use room::moves::insert;
-use room::slots::read;
 use room::steps::find;
 use room::steps::held;
 use room::steps::joins;
@@ -26,8 +23,12 @@ use rule::Bucket;
 use rule::Found;
 use rule::Kind;
 use rule::Refusal;
+use rule::SLOT;
 use rule::Settings;
 use rule::State;
+use slots::moves::clear;
+use slots::moves::insert;
+use slots::read;
 
 // The last tick that a trace can hold.
 const LAST: u32 = 16777215;
@@ -83,7 +84,7 @@ impl Trace {
         match admit(s, &*room) {
             Admitted::Refused(r) => Answer::Refused(r),
             Admitted::Slots(needed) => {
-                clear(&mut *room, 0, 4 * needed);
+                clear(&mut *room, 0, SLOT * needed);
                 Answer::Accepted(Trace {
                     state: State {
                         settings: s,
@@ -165,7 +166,7 @@ impl Trace {
             return Answer::Refused(Refusal::Tick);
         }
         let at = find(&*room, s.used, tick);
-        if held(&*room, at, tick) {
+        if held(&*room, s.used, at, tick) {
             return Answer::Refused(Refusal::Taken);
         }
         let runs = s.runs + 1 - joins(&*room, s.used, at, tick);
@@ -187,7 +188,7 @@ impl Trace {
             return Found::Refused(Refusal::Tick);
         }
         let at = find(room, s.used, tick);
-        if !held(room, at, tick) {
+        if !held(room, s.used, at, tick) {
             return Found::Refused(Refusal::Absent);
         }
         found_in(read(room, at - 1))

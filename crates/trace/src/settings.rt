@@ -7,7 +7,9 @@ ghost use Rattle.trace.specs.Verdicts.{admission};
 use room::check::gaps_good;
 use room::check::limit;
 use rule::Kind;
+use rule::MOST;
 use rule::Refusal;
+use rule::SLOT;
 use rule::Settings;
 
 // The slots that are needed, or the refusal.
@@ -19,7 +21,7 @@ pub(crate) enum Admitted {
 fn steps_good(s: Settings) -> bool
     ensures { λ r. ⌜ r ≡ stepsGood s ⌝ }
 {
-    if s.steps < 1 { false } else { s.steps <= 256 }
+    if s.steps < 1 { false } else { s.steps <= MOST }
 }
 
 fn gaps_kept(kind: Kind, gaps: usize) -> usize
@@ -55,7 +57,7 @@ pub(crate) fn admit(s: Settings, room: &[i64]) -> Admitted
         return Admitted::Refused(Refusal::Gaps);
     }
     let needed = limit(s, s.gaps) + 1;
-    if room.len() < 4 * needed {
+    if room.len() < SLOT * needed {
         return Admitted::Refused(Refusal::Room);
     }
     Admitted::Slots(needed)

@@ -5,8 +5,8 @@ use mathlib.Core.Path.{_≡_, sym}
 use mathlib.Core.Bool.{true}
 use Rattle.rule.specs.Calls.{refuse}
 use Rattle.rule.specs.Room.{sound, tableOf}
-use Rattle.room.proofs.Laying.{length-slots}
-use Rattle.room.proofs.Reading.{filled}
+use Rattle.slots.proofs.Laying.{length-slots}
+use Rattle.slots.proofs.Reading.{filled}
 use Rattle.room.proofs.Sounding.{sound-facts, sound-filled}
 use Rattle.room.proofs.Tests.{flipped}
 use Rattle.row.specs.Parts.{parted, partOutcome}

@@ -59,10 +59,10 @@ use Rattle.rule.proofs.Bucket.Laws as B′
 use Rattle.rule.proofs.Written as Wr
 use Rattle.rule.proofs.Written.Laws as Wr′
 use Rattle.rule.proofs.Whole.{by-test}
-use Rattle.room.proofs.slots.read as read
-use Rattle.room.proofs.slots.read.Symbol as read-def
-use Rattle.room.proofs.slots.read.Symbol.{name as #room·slots·read}
-use Rattle.room.proofs.slots.read.Met as read-thm
+use Rattle.slots.proofs.read as read
+use Rattle.slots.proofs.read.Symbol as read-def
+use Rattle.slots.proofs.read.Symbol.{name as #slots·read}
+use Rattle.slots.proofs.read.Met as read-thm
 use Rattle.trace.specs.declared.Trace.{Trace}
 use Rattle.trace.proofs.Trace as Tr
 use Rattle.trace.proofs.Trace.Laws as Tr′
@@ -208,7 +208,7 @@ module _ {M : Type 1} (𝓤 : URA M) (H : Heap 𝓤) (A : Atoms 𝓤) (W : Given
   Nearer-wf : WellFounded Nearer
   Nearer-wf = InvImage·wf (λ (i : Upto). n - i .0) (Nat·lt-wfRel .wf)
 
-  module _ (𝓣 : Tables 𝓤 H) (known-read : Triple 𝓤 (𝓣 .C #room·slots·read) (Reads 𝓤 H A mem run)) (w : Val) (is-a : Is Wr.the-row a (w ∷ [])) (l₀ l₁ l₂ l₃ l₄ l₅ l₆ l₇ l₈ l₉ l₁₀ l₁₁ : ℕ) where
+  module _ (𝓣 : Tables 𝓤 H) (known-read : Triple 𝓤 (𝓣 .C #slots·read) (Reads 𝓤 H A mem run)) (w : Val) (is-a : Is Wr.the-row a (w ∷ [])) (l₀ l₁ l₂ l₃ l₄ l₅ l₆ l₇ l₈ l₉ l₁₀ l₁₁ : ℕ) where
     abbrev C : Calls 𝓤 H
     C = 𝓣 .C
 
@@ -288,7 +288,7 @@ module _ {M : Type 1} (𝓤 : URA M) (H : Heap 𝓤) (A : Atoms 𝓤) (W : Given
     looped : Sq W (At (0, zero-le)) (runs C Λ En code-of.t-5 (atRet En Post))
     looped = first ! $ blocks ! $ loops ! 𝓣 Nearer Nearer-wf At turns (0, zero-le)
 
-  module _ (𝓣 : Tables 𝓤 H) (known-written : Triple 𝓤 (𝓣 .C #row·written) (Answers 𝓤 H A mem run)) (known-count : Triple 𝓤 (𝓣 .C #row·number) (Counts 𝓤 H A mem run)) (known-read : Triple 𝓤 (𝓣 .C #room·slots·read) (Reads 𝓤 H A mem run)) where
+  module _ (𝓣 : Tables 𝓤 H) (known-written : Triple 𝓤 (𝓣 .C #row·written) (Answers 𝓤 H A mem run)) (known-count : Triple 𝓤 (𝓣 .C #row·number) (Counts 𝓤 H A mem run)) (known-read : Triple 𝓤 (𝓣 .C #slots·read) (Reads 𝓤 H A mem run)) where
     walk : ent 𝓤 (onEntry 𝓤 H A row.signature (κ, (κ′, tt)) (q, (q′, tt)) args vals) (WpFn 𝓤 H (𝓣 .C) (𝓣 .Λ) code.function (v ∷ s ∷ u ∷ []) Post)
     walk =
         qed W ((‵ (flft κ q) ⊛ (‵ (flft κ′ q′) ⊛ ‵ ftrue)) ∷ ‵ (owns (Tr.the-row ∷ ShrSlice (named 0) κ i64 ∷ MutSlice (named 1) κ′ B.the-row ∷ []) args vals) ∷ []) ∵ enter ! (𝓣 .C) (𝓣 .Λ) code.function (v ∷ s ∷ u ∷ []) _ $
@@ -321,7 +321,7 @@ module _ {M : Type 1} (𝓤 : URA M) (H : Heap 𝓤) (A : Atoms 𝓤) (W : Given
         looped 𝓣 known-read w is-a l₀ l₁ l₂ l₃ l₄ l₅ l₆ l₇ l₈ l₉ l₁₀ l₁₁))))))))))))))))))))
 
 module _ {M : Type 1} (𝓤 : URA M) (H : Heap 𝓤) (A : Atoms 𝓤) (W : Given 𝓤 H A) (mem : Memory → SProp 𝓤) (run : Routine → Fun 𝓤) (𝓣 : Tables 𝓤 H)
-    (known-written : Triple 𝓤 (𝓣 .C #row·written) (Answers 𝓤 H A mem run)) (known-count : Triple 𝓤 (𝓣 .C #row·number) (Counts 𝓤 H A mem run)) (known-read : Triple 𝓤 (𝓣 .C #room·slots·read) (Reads 𝓤 H A mem run)) where
+    (known-written : Triple 𝓤 (𝓣 .C #row·written) (Answers 𝓤 H A mem run)) (known-count : Triple 𝓤 (𝓣 .C #row·number) (Counts 𝓤 H A mem run)) (known-read : Triple 𝓤 (𝓣 .C #slots·read) (Reads 𝓤 H A mem run)) where
   row-walks : Walks 𝓤 H A row.ended stayed (WpFn 𝓤 H (𝓣 .C) (𝓣 .Λ) code.function) (row.clauses 𝓤 H A mem run)
   row-walks = walked 𝓤 H A row.ended stayed (row.clauses 𝓤 H A mem run) (WpFn 𝓤 H (𝓣 .C) (𝓣 .Λ) code.function) (λ κs. (LL.vals Tr.the-type Tr′.the-laws, (slice-vals, (slice-vals, tt))))
       (λ κs. (LL.tells Tr.the-type Tr′.the-laws, (shr-slice-tells (named 0) (κs .0) i64, (mut-slice-tells (named 1) (κs .1 .0) B.the-row, tt))))
@@ -339,4 +339,4 @@ row-spec 𝓤 H 𝓜 𝓖 𝓡 =
     (row-meets 𝓤 H (𝓖 .A) (givenOf 𝓤 H 𝓜 𝓖) (𝓜 .mem) (𝓡 .run) (tablesOf 𝓤 H 𝓜 (tables 𝓤 H 𝓜 𝓡 code.env))
     (cited 𝓤 H (Answers 𝓤 H (𝓖 .A) (𝓜 .mem) (𝓡 .run)) 𝓜 𝓡 code.env #row·written written-def.routine code.calls-row·written (written-thm.met 𝓤 H 𝓜 𝓖 𝓡))
     (cited 𝓤 H (Counts 𝓤 H (𝓖 .A) (𝓜 .mem) (𝓡 .run)) 𝓜 𝓡 code.env #row·number count-def.routine code.calls-row·number (count-thm.met 𝓤 H 𝓜 𝓖 𝓡))
-    (cited 𝓤 H (Reads 𝓤 H (𝓖 .A) (𝓜 .mem) (𝓡 .run)) 𝓜 𝓡 code.env #room·slots·read read-def.routine code.calls-room·slots·read (read-thm.met 𝓤 H 𝓜 𝓖 𝓡)))
+    (cited 𝓤 H (Reads 𝓤 H (𝓖 .A) (𝓜 .mem) (𝓡 .run)) 𝓜 𝓡 code.env #slots·read read-def.routine code.calls-slots·read (read-thm.met 𝓤 H 𝓜 𝓖 𝓡)))

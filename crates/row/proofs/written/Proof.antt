@@ -5,7 +5,7 @@ use mathlib.Core.Path.{_≡_}
 use mathlib.Core.Bool.{true}
 use Rattle.rule.specs.Calls.{refuse, writeVerdict}
 use Rattle.rule.specs.Room.{sound}
-use Rattle.room.proofs.Laying.{length-slots}
+use Rattle.slots.proofs.Laying.{length-slots}
 use Rattle.room.proofs.Tests.{flipped}
 use Rattle.row.specs.Parts.{answer}
 use Rattle.row.proofs.written.Statement.{statement}

@@ -4,7 +4,7 @@ use Prim.Native.Nat.{_-_}
 use mathlib.Core.Path.{sym}
 use Rattle.rule.specs.Room.{slots}
 use Rattle.rule.specs.Table.{lastEnd}
-use Rattle.room.proofs.Reading.{filled}
+use Rattle.slots.proofs.Reading.{filled}
 use Rattle.trace.proofs.Taking.{last-slot}
 use borrow.Author.Needs.{needs}
 use Rattle.trace.proofs.next_tick.Statement.{statement}

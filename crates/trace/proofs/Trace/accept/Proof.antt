@@ -11,7 +11,7 @@ use Rattle.trace.proofs.Trace.accept.Statement.{statement}
 use Rattle.trace.proofs.Trace.accept.Tie as tie
 use Rattle.trace.proofs.Trace.accept.Reads as reads
 use Rattle.trace.proofs.Trace.accept.Lts as lts
-use Rattle.room.proofs.moves.insert.Reads as insert-reads
+use Rattle.slots.proofs.moves.insert.Reads as insert-reads
 use Rattle.room.proofs.steps.settle.Reads as settle-reads
 
 insert-requires : tie.Need-insert-requires

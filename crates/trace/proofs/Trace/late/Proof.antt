@@ -10,8 +10,7 @@ use Rattle.rule.specs.Calls.{isHeld, late, lateVerdict, refuse, traced}
 use Rattle.rule.specs.Numbers.{ticks}
 use Rattle.rule.specs.Room.{sound, tableOf}
 use Rattle.rule.specs.Table.{holding, runs}
-use Rattle.room.specs.Slots.{Placed}
-use Rattle.room.proofs.Placing.{filled-before}
+use Rattle.slots.specs.Slots.{Placed}
 use Rattle.room.proofs.Tests.{flipped}
 use Rattle.trace.specs.declared.Answer.the-variants.{Accepted}
 use Rattle.trace.specs.Answers.{answer}
@@ -40,7 +39,7 @@ abbrev sought : tie.Else4 → tie.Else3
 sought c = c .before .before .before .before .before
 
 free : (c : tie.Else4) → isHeld (holding (start (sought c) .args .tick) (tableOf (start (sought c) .args .self .state) (start (sought c) .args .room .now))) ≡ false
-free c = sym (c .before .held .ensures (start (sought c) .args .self .state .used) (placed (c .before .before .before))) ∙ c .if4 .left
+free c = sym (c .before .held .ensures) ∙ c .if4 .left
 
 abbrev unheld : tie.After-joins → tie.Else4
 unheld c = c .before .before .before
@@ -82,7 +81,7 @@ find-requires : tie.Need-find-requires
 find-requires c κs = late-filled (passed (c .before))
 
 held-requires : tie.Need-held-requires
-held-requires c κs = filled-before (placed (c .before))
+held-requires c κs = placed (c .before)
 
 same-length-4 : tie.Need-same-length-4
 same-length-4 c = search needs
@@ -92,7 +91,7 @@ unfolding lateVerdict refuse traced answer
 returns-4 c =
     let at = c .before .before .before in
     let p = passed (at .before .before) in
-    rw (p .fit, p .kind, lt-leb ticks _ (p .small), sym (c .before .held .ensures _ (placed at)) ∙ c .if4 .taken)
+    rw (p .fit, p .kind, lt-leb ticks _ (p .small), sym (c .before .held .ensures) ∙ c .if4 .taken)
 
 add-runs : tie.Need-add-runs
 add-runs c = omega (arith, late-runs (passed (sought (c .before))))

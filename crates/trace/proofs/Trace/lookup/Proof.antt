@@ -9,9 +9,9 @@ use Rattle.rule.specs.Calls.{found, foundOf, isHeld, lookupOutcome, refuse}
 use Rattle.rule.specs.Numbers.{ticks}
 use Rattle.rule.specs.Room.{sound, tableOf}
 use Rattle.rule.specs.Table.{holding}
-use Rattle.room.specs.Slots.{Placed}
+use Rattle.slots.specs.Slots.{Placed}
 use Rattle.room.proofs.Placing.{filled-before}
-use Rattle.room.proofs.Reading.{filled}
+use Rattle.slots.proofs.Reading.{filled}
 use Rattle.room.proofs.Sounding.{sound-facts, sound-filled}
 use Rattle.room.proofs.Tests.{flipped}
 use Rattle.trace.proofs.Finding.{before-holds, not-held, past-first, sound-placed}
@@ -34,7 +34,7 @@ placed c =
 -- what the third test tells
 told : (c : tie.After-held) {v : Bool} → not (c .held .result) ≡ v
     → let a = c .before .before .before .before .before .before .args in isHeld (holding (a .tick) (tableOf (a .self .state) (a .room .now))) ≡ not v
-told c = flipped (c .held .ensures (c .before .before .before .before .before .before .args .self .state .used) (placed (c .before)))
+told c = flipped (c .held .ensures)
 
 sound-requires : tie.Need-sound-requires
 sound-requires c κs = search needs
@@ -53,7 +53,7 @@ find-requires c κs =
     sound-filled (a .self .state) (a .room .now) (sound-facts (a .self .state) (a .room .now) (whole (c .before)))
 
 held-requires : tie.Need-held-requires
-held-requires c κs = filled-before (placed c)
+held-requires c κs = placed c
 
 returns-3 : tie.Need-returns-3
 unfolding lookupOutcome refuse foundOf found

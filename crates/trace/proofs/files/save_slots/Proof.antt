@@ -5,7 +5,7 @@ use native.Mathlib.Omega.{arith}
 use native.Mathlib.Numerals.{add-one}
 use Rattle.rule.specs.Bytes.{saved}
 use Rattle.rule.specs.Room.{slots}
-use Rattle.room.proofs.Reading.{filled}
+use Rattle.slots.proofs.Reading.{filled}
 use Rattle.trace.proofs.Filing.{saved-length, saved-next, savedUpTo}
 use Rattle.trace.proofs.files.save_slots.Statement.{statement}
 use Rattle.trace.proofs.files.save_slots.Tie as tie

@@ -1,0 +1,161 @@
+-- Demand 1: the chain of refusals of each call gives the first row that is due, and a refusal leaves what was lent.
+use Prim.Native.Nat.{ℕ, zero, suc, _+_, _*_, _%_, _≤_, min}
+use mathlib.Core.Path.{_≡_, refl, sym, ap}
+use mathlib.Core.Bool.{Bool, true, false, false≢true, not, _&&_}
+use mathlib.Core.List.{List, [], _∷_, _++_}
+use mathlib.Core.Option.{Option, some, none}
+use native.Mathlib.Omega.{arith}
+use borrow.Author.Tests.{le-leb, le-ltb, leb-false, leb-true, lt-ltb, ne-eqb, not-false}
+use lib.Dec.{eqb, leb, ltb}
+use lib.IntN.{ℤ}
+use lib.ListN.{length}
+use Rattle.rule.specs.declared.Bucket.{Bucket}
+use Rattle.rule.specs.declared.Kind.{Kind}
+use Rattle.rule.specs.declared.Kind.the-variants.{InOrder, Late}
+use Rattle.rule.specs.declared.Refusal.{Refusal}
+use Rattle.rule.specs.declared.Settings.{Settings}
+use Rattle.rule.specs.declared.State.{State}
+use Rattle.rule.specs.declared.Tally.{Tally}
+use Rattle.rule.specs.Answers.{number, place}
+use Rattle.rule.specs.Bytes.{recordsOf, saved}
+use Rattle.rule.specs.Calls.{Verdict, accepted, admitted, counted, found, foundOf, gapsKept, grown, isHeld, kept, late, lateVerdict, loadVerdict, lookupOutcome, nextVerdict, refuse, refuseFault, refused, traced, writeVerdict, wrote}
+use Rattle.rule.specs.Numbers.{most, recordWidth, slotWidth, tallyMost, ticks}
+use Rattle.rule.specs.Room.{gapsBounded, gapsGood, roomy, runsAllowed, sound, stepsGood, tableOf}
+use Rattle.rule.specs.Rules.{Fault, fault, firstFault, isWhole, ruled, whole}
+use Rattle.rule.specs.Table.{Table, accept, holding, insert, limit, limitOver, needed, nextTick, runs, single}
+use Rattle.rule.proofs.Merging.{settle-runs}
+use Rattle.rule.proofs.Whole.{by-test}
+use Rattle.promises.specs.Answered.{Answered, Demand1, Row, fileRows, firstOf, indexOf, lateRows, lookupRows, nextRows, openRows, outside, row, said, saidFound, saidWritten, writeRows}
+
+-- ---- one link of a chain and one row
+
+module _ {A : Type 0} where
+  link : (c d : Bool) (r : Refusal) (v : Verdict A) (rows : List Row) → c ≡ d → (c ≡ false → said v ≡ firstOf rows)
+      → said (refuse c r v) ≡ firstOf (record { number = number r; place = place r; due = d } ∷ rows)
+  unfolding said refuse firstOf
+  link true d r v rows e k = rw (sym e)
+  link false d r v rows e k = rw (sym e) (k refl)
+
+  fault-link : (f : Fault) (v : Verdict A) (rows : List Row) → said v ≡ firstOf rows
+      → said (refuseFault f v) ≡ firstOf (record { number = 8; place = indexOf f; due = not (isWhole f) } ∷ rows)
+  unfolding said refuseFault firstOf indexOf isWhole
+  fault-link whole v rows k = k
+  fault-link (fault i r) v rows k = refl
+
+-- ---- the conditions, as the definitions say them and as document 01 does
+
+not-leb : (a b : ℕ) → not (leb a b) ≡ ltb b a
+not-leb a b = by-test (leb a b) (λ h. rw (h, le-ltb b a (leb-true a b h))) (λ h. rw (h, lt-ltb b a (leb-false a b h)))
+
+bounds : (n : ℕ) → not (leb 1 n && leb n most) ≡ outside n
+unfolding outside
+bounds zero = refl
+bounds (suc n) = rw (le-leb 1 (suc n) (omega arith), ne-eqb (suc n) 0 (λ e. omega arith)) (not-leb (suc n) most)
+
+steps-due : (g : Settings) → not (stepsGood g) ≡ outside (g .steps)
+unfolding stepsGood
+steps-due g = bounds (g .steps)
+
+gaps-due : (k : Kind) (gaps : ℕ) → not (gapsGood k (gapsKept k gaps)) ≡ late k && outside gaps
+unfolding gapsGood gapsKept late gapsBounded
+gaps-due InOrder gaps = refl
+gaps-due Late gaps = bounds gaps
+
+runs-due : (k : Kind) (gaps n : ℕ) → not (runsAllowed k (gapsKept k gaps) n) ≡ late k && ltb gaps n
+unfolding runsAllowed gapsKept late
+runs-due InOrder gaps n = refl
+runs-due Late gaps n = not-leb n gaps
+
+room-due : (g : Settings) (l : List ℤ) → not (roomy g l) ≡ ltb (length l) (slotWidth * needed g)
+unfolding roomy
+room-due g l = not-leb (slotWidth * needed g) (length l)
+
+-- late, the limit leaves a bucket for each run
+enough : (k : Kind) (base n : ℕ) → late k ≡ true → n ≤ limitOver k base n
+unfolding late limitOver
+enough InOrder base n e = absurd (false≢true e)
+enough Late base n e = omega arith
+
+accepted-runs : (s : Settings) (t : Table) (tick : ℕ) (v : ℤ) → late (s .kind) ≡ true → runs (insert (single tick v) t) ≡ runs (accept s t tick v)
+unfolding accept
+accepted-runs s t tick v e = sym (settle-runs s (insert (single tick v) t) (enough (s .kind) (2 * s .steps) (runs (insert (single tick v) t)) e))
+
+-- ---- the answers
+
+none-given : (r : ℕ × ℕ) → none ≡ some r → ⊥
+none-given r e = let z : _≡_ {A = ℕ} 0 1 = cc in omega arith
+
+module _ (g : Settings) (l : List ℤ) where
+  answered : (v : Verdict Table) (rows : List Row) → said v ≡ firstOf rows → let o = traced g l v in Answered (said (o .0)) rows l (o .1)
+  unfolding said traced
+  answered (refused r) rows e = record { exactly = e; untouched = λ q f. refl }
+  answered (accepted t) rows e = record { exactly = e; untouched = λ q f. absurd (none-given q f) }
+
+written : {A : Type 0} (form : Table → List A) (out : List A) (v : Verdict Table) (rows : List Row) → said v ≡ firstOf rows
+    → let o = wrote form out v in Answered (saidWritten (o .0)) rows out (o .1)
+unfolding said saidWritten wrote
+written form out (refused r) rows e = record { exactly = e; untouched = λ q f. refl }
+written form out (accepted t) rows e = record { exactly = e; untouched = λ q f. absurd (none-given q f) }
+
+-- ---- each call's chain
+
+admits : (g : Settings) (l : List ℤ) (v : Verdict Table) (rows : List Row) → said v ≡ firstOf rows → said (admitted (kept g) l v) ≡ firstOf (openRows g l ++ rows)
+unfolding admitted
+admits g l v rows e =
+    link (not (stepsGood (kept g))) _ Refusal.Steps _ _ (steps-due (kept g)) (λ a.
+    link (not (gapsGood (g .kind) (gapsKept (g .kind) (g .gaps)))) _ Refusal.Gaps _ _ (gaps-due (g .kind) (g .gaps)) (λ b.
+    link (not (roomy (kept g) l)) _ Refusal.Room _ _ (room-due (kept g) l) (λ c. e)))
+
+nothing : {A : Type 0} (a : A) → said (accepted a) ≡ firstOf []
+unfolding said firstOf
+nothing a = refl
+
+writes : (s : State) (l : List ℤ) (places taken : ℕ) → said (writeVerdict s l taken places) ≡ firstOf (writeRows s l places taken)
+unfolding writeVerdict
+writes s l places taken =
+    link (not (sound s l)) _ Refusal.Unsound _ _ refl (λ a.
+    link (ltb places taken) _ Refusal.Short _ _ refl (λ b. nothing _))
+
+absent : (o : Option Bucket) → saidFound (found o) ≡ firstOf (row 12 (not (isHeld o)) ∷ [])
+unfolding saidFound found firstOf isHeld
+absent none = refl
+absent (some b) = refl
+
+looked : (s : State) (l : List ℤ) (tick : ℕ) → saidFound (lookupOutcome s l tick) ≡ firstOf (lookupRows s l tick)
+unfolding lookupOutcome foundOf refuse firstOf saidFound
+looked s l tick =
+    by-test (sound s l)
+    (λ fit. by-test (leb ticks tick) (λ h. rw (fit, h)) (λ h. rw (fit, h) (absent (holding tick (tableOf s l)))))
+    (λ fit. rw fit)
+
+told : (t : Tally) (used : ℕ) (o : Verdict State) (r : ℕ × ℕ) → said o ≡ some r → counted t used o ≡ record { accepted = t .accepted; refused = min (t .refused + 1) tallyMost; merges = t .merges }
+unfolding said counted grown
+told t used (refused q) r e = refl
+told t used (accepted s) r e = absurd (none-given r e)
+
+pub demand1 : Demand1
+unfolding nextVerdict lateVerdict lookupOutcome writeVerdict loadVerdict ruled
+demand1 = record {
+  opens = λ g l. answered (kept g) l (admitted (kept g) l (accepted [])) (openRows g l) (admits g l (accepted []) [] (nothing []));
+  nexts = λ s l v. answered (s .settings) l (nextVerdict s l v) (nextRows s l)
+      (link (not (sound s l)) _ Refusal.Unsound _ _ refl (λ a.
+      link (late (s .settings .kind)) _ Refusal.Kind _ _ refl (λ b.
+      link (leb ticks (nextTick (tableOf s l))) _ Refusal.Tick _ _ refl (λ c. nothing _))));
+  lates = λ s l tick v. answered (s .settings) l (lateVerdict s l tick v) (lateRows s l tick v)
+      (link (not (sound s l)) _ Refusal.Unsound _ _ refl (λ a.
+      link (not (late (s .settings .kind))) _ Refusal.Kind _ _ refl (λ b.
+      link (leb ticks tick) _ Refusal.Tick _ _ refl (λ c.
+      link (isHeld (holding tick (tableOf s l))) _ Refusal.Taken _ _ refl (λ d.
+      link (ltb (s .settings .gaps) (runs (insert (single tick v) (tableOf s l)))) _ Refusal.Runs _ _
+      (ap (ltb (s .settings .gaps)) (accepted-runs (s .settings) (tableOf s l) tick v (not-false (late (s .settings .kind)) b))) (λ e. nothing _))))));
+  lookups = λ s l tick. looked s l tick;
+  rows = λ s l out. written (λ t. t) out (writeVerdict s l (s .used) (length out)) (writeRows s l (length out) (s .used)) (writes s l (length out) (s .used));
+  saves = λ s l out. written saved out (writeVerdict s l (recordWidth * s .used) (length out)) (writeRows s l (length out) (recordWidth * s .used)) (writes s l (length out) (recordWidth * s .used));
+  loads = λ g file l. answered (kept g) l (loadVerdict (kept g) file l) (openRows g l ++ fileRows g file)
+      (admits g l _ _
+      (link (not (eqb (length file % recordWidth) 0)) _ Refusal.Length _ _ refl (λ a.
+      fault-link (firstFault (g .kind) 0 0 (recordsOf file)) _ _
+      (link (not (runsAllowed (g .kind) (gapsKept (g .kind) (g .gaps)) (runs (recordsOf file)))) _ Refusal.Runs _ _ (runs-due (g .kind) (g .gaps) (runs (recordsOf file))) (λ b.
+      link (ltb (limit (kept g) (runs (recordsOf file))) (length (recordsOf file))) _ Refusal.Overfull _ _ refl (λ c. nothing _))))));
+  tally = told;
+}

@@ -1,0 +1,126 @@
+-- Demand 1: every call ends with its answer, or with one refusal of document 01's table, given exactly when the table says.
+use Prim.Native.Nat.{ℕ, _+_, _*_, _%_, min}
+use mathlib.Core.Path.{_≡_}
+use mathlib.Core.Bool.{Bool, cond, not, _&&_, _||_}
+use mathlib.Core.List.{List, [], _∷_, _++_}
+use mathlib.Core.Option.{Option, some, none}
+use lib.Dec.{eqb, leb, ltb}
+use lib.IntN.{ℤ}
+use lib.ListN.{length}
+use Rattle.rule.specs.declared.Bucket.{Bucket}
+use Rattle.rule.specs.declared.Found.{Found}
+use Rattle.rule.specs.declared.Settings.{Settings}
+use Rattle.rule.specs.declared.State.{State}
+use Rattle.rule.specs.declared.Tally.{Tally}
+use Rattle.rule.specs.declared.Written.{Written}
+use Rattle.rule.specs.Answers.{number, place}
+use Rattle.rule.specs.Bytes.{recordsOf}
+use Rattle.rule.specs.Calls.{Verdict, accepted, counted, isHeld, kept, late, lateOutcome, loaded, lookupOutcome, nextOutcome, opened, refused, rowOutcome, saveOutcome}
+use Rattle.rule.specs.Numbers.{most, recordWidth, slotWidth, tallyMost, ticks}
+use Rattle.rule.specs.Room.{sound, tableOf}
+use Rattle.rule.specs.Rules.{Fault, fault, firstFault, ruled, whole}
+use Rattle.rule.specs.Table.{accept, holding, limit, needed, nextTick, runs}
+
+-- ---- the table, call by call, in the orders of document 01
+
+-- a row: a refusal's number and place, and whether it is due
+pub record Row : Type 0 where
+  pub number : ℕ
+  pub place : ℕ
+  pub due : Bool
+
+-- the place is 0 except for 8
+abbrev pub row : ℕ → Bool → Row
+row n c = record { number = n; place = 0; due = c }
+
+-- the first that is due is the one given
+unfoldable pub firstOf : List Row → Option (ℕ × ℕ)
+firstOf [] = none
+firstOf (r ∷ rs) = cond (r .due) (some (r .number, r .place)) (firstOf rs)
+
+-- 0 or above 256
+unfoldable pub outside : ℕ → Bool
+outside n = eqb n 0 || ltb most n
+
+-- the index of the first record that breaks a rule
+unfoldable pub indexOf : Fault → ℕ
+indexOf whole = 0
+indexOf (fault i r) = i
+
+abbrev pub openRows : Settings → List ℤ → List Row
+openRows g l =
+    row 1 (outside (g .steps))
+    ∷ row 2 (late (g .kind) && outside (g .gaps))
+    ∷ row 3 (ltb (length l) (slotWidth * needed (kept g)))
+    ∷ []
+
+abbrev pub fileRows : Settings → List ℕ → List Row
+fileRows g file =
+    row 7 (not (eqb (length file % recordWidth) 0))
+    ∷ record { number = 8; place = indexOf (firstFault (g .kind) 0 0 (recordsOf file)); due = not (ruled (g .kind) (recordsOf file)) }
+    ∷ row 9 (late (g .kind) && ltb (g .gaps) (runs (recordsOf file)))
+    ∷ row 10 (ltb (limit g (runs (recordsOf file))) (length (recordsOf file)))
+    ∷ []
+
+abbrev pub nextRows : State → List ℤ → List Row
+nextRows s l =
+    row 4 (not (sound s l))
+    ∷ row 5 (late (s .settings .kind))
+    ∷ row 6 (leb ticks (nextTick (tableOf s l)))
+    ∷ []
+
+abbrev pub lateRows : State → List ℤ → ℕ → ℤ → List Row
+lateRows s l tick v =
+    row 4 (not (sound s l))
+    ∷ row 5 (not (late (s .settings .kind)))
+    ∷ row 6 (leb ticks tick)
+    ∷ row 11 (isHeld (holding tick (tableOf s l)))
+    ∷ row 9 (ltb (s .settings .gaps) (runs (accept (s .settings) (tableOf s l) tick v)))
+    ∷ []
+
+abbrev pub lookupRows : State → List ℤ → ℕ → List Row
+lookupRows s l tick =
+    row 4 (not (sound s l))
+    ∷ row 6 (leb ticks tick)
+    ∷ row 12 (not (isHeld (holding tick (tableOf s l))))
+    ∷ []
+
+-- of row and save: the output has so many places, and the buckets take so many
+abbrev pub writeRows : State → List ℤ → ℕ → ℕ → List Row
+writeRows s l places taken =
+    row 4 (not (sound s l))
+    ∷ row 13 (ltb places taken)
+    ∷ []
+
+-- ---- what a call says: a refusal's number and place, or none
+
+unfoldable pub said : {A : Type 0} → Verdict A → Option (ℕ × ℕ)
+said (refused r) = some (number r, place r)
+said (accepted a) = none
+
+unfoldable pub saidFound : Found → Option (ℕ × ℕ)
+saidFound (Found.Refused r) = some (number r, place r)
+saidFound (Found.Level level error least largest) = none
+
+unfoldable pub saidWritten : Written → Option (ℕ × ℕ)
+saidWritten (Written.Refused r) = some (number r, place r)
+saidWritten (Written.Buckets n) = none
+
+-- ---- the demand
+
+-- A call is refused where a row is due, with the first that is, and answered where none is. A refusal leaves what was lent as it stood; the state is passed by value.
+pub record Answered {A : Type 0} (says : Option (ℕ × ℕ)) (rows : List Row) (before after : A) : Type 0 where
+  pub exactly : says ≡ firstOf rows
+  pub untouched : (r : ℕ × ℕ) → says ≡ some r → after ≡ before
+
+pub record Demand1 : Type 0 where
+  pub opens : (g : Settings) (l : List ℤ) → let o = opened g l in Answered (said (o .0)) (openRows g l) l (o .1)
+  pub nexts : (s : State) (l : List ℤ) (v : ℤ) → let o = nextOutcome s l v in Answered (said (o .0)) (nextRows s l) l (o .1)
+  pub lates : (s : State) (l : List ℤ) (tick : ℕ) (v : ℤ) → let o = lateOutcome s l tick v in Answered (said (o .0)) (lateRows s l tick v) l (o .1)
+  pub lookups : (s : State) (l : List ℤ) (tick : ℕ) → saidFound (lookupOutcome s l tick) ≡ firstOf (lookupRows s l tick)
+  pub rows : (s : State) (l : List ℤ) (out : List Bucket) → let o = rowOutcome s l out in Answered (saidWritten (o .0)) (writeRows s l (length out) (s .used)) out (o .1)
+  pub saves : (s : State) (l : List ℤ) (out : List ℕ) → let o = saveOutcome s l out in Answered (saidWritten (o .0)) (writeRows s l (length out) (recordWidth * s .used)) out (o .1)
+  pub loads : (g : Settings) (file : List ℕ) (l : List ℤ) → let o = loaded g file l in Answered (said (o .0)) (openRows g l ++ fileRows g file) l (o .1)
+  -- the one thing that a refused reading changes
+  pub tally : (t : Tally) (used : ℕ) (o : Verdict State) (r : ℕ × ℕ) → said o ≡ some r
+      → counted t used o ≡ record { accepted = t .accepted; refused = min (t .refused + 1) tallyMost; merges = t .merges }

@@ -1,0 +1,58 @@
+-- The buckets that ranged slots hold have their numbers in their fields' ranges; slots laid of such buckets are filled.
+use Prim.Native.Nat.{ℕ, zero, suc, _*_, _-_, _≤_, _<_}
+use mathlib.Core.Path.{_≡_, refl, _∙_}
+use mathlib.Core.Bool.{true, false≢true}
+use mathlib.Core.List.{List, [], _∷_, _++_}
+use native.Mathlib.Omega.{arith}
+use native.Mathlib.Nat.{add-zero}
+use lib.IntN.{ℤ, pos, negsuc, natAbs}
+use lib.ListN.{length, drop}
+use lib.Signed.{leZ, ltZ}
+use Rattle.rule.specs.Numbers.{word}
+use Rattle.rule.specs.Room.{flat, laid, ranged, slot, slotRanged, slots, unsigned, within, zeros}
+use Rattle.rule.specs.Table.{Table}
+use Rattle.rule.proofs.Whole.{whole}
+use Rattle.rule.proofs.Fitting.{Fitted, Fitting}
+use Rattle.rule.proofs.Signed.{fits-signed, signed-fits}
+use Rattle.slots.specs.Slots.{Filled}
+use Rattle.rule.proofs.Ruling.{and-both, and-left, and-right}
+use Rattle.slots.proofs.Laying.{length-laid, ranged-behind}
+use Rattle.slots.proofs.Reading.{ranges}
+
+-- ---- read from ranged slots
+
+unsigned-below : (z : ℤ) → unsigned z ≡ true → natAbs z < word
+unfolding within
+unsigned-below (pos n) e = omega (whole, and-right (leZ (pos 0) (pos n)) (ltZ (pos n) (pos word)) e)
+unsigned-below (negsuc n) e = absurd (false≢true e)
+
+pub fitting-slot : (l : List ℤ) (i : ℕ) → slotRanged l i ≡ true → Fitting (slot l i)
+unfolding slot
+fitting-slot l i e =
+    let r = ranges l i e in
+    record { start = rw add-zero (unsigned-below _ (r .start)); count = unsigned-below _ (r .count); least = signed-fits _ (r .least); largest = signed-fits _ (r .largest) }
+
+pub fitted-slots : (l : List ℤ) (i n : ℕ) → ranged l i n ≡ true → Fitted (slots l i n)
+unfolding Fitted ranged slots
+fitted-slots l i zero e = tt
+fitted-slots l i (suc n) e = (fitting-slot l i (and-left (slotRanged l i) (ranged l (suc i) n) e), fitted-slots l (suc i) n (and-right (slotRanged l i) (ranged l (suc i) n) e))
+
+-- ---- laid
+
+unsigned-in : (n : ℕ) → n < word → unsigned (pos n) ≡ true
+unfolding within
+unsigned-in n h = and-both {a = leZ (pos 0) (pos n)} {b = ltZ (pos n) (pos word)} (omega whole) (omega whole)
+
+pub ranged-flat : (t : Table) (r : List ℤ) → Fitted t → ranged (flat t ++ r) 0 (length t) ≡ true
+unfolding Fitted flat ranged slotRanged
+ranged-flat [] r f = refl
+ranged-flat (b ∷ t) r f =
+    let g = f .0 in
+    and-both
+    (and-both (and-both (and-both (unsigned-in (b .start) (g .start)) (unsigned-in (b .count) (g .count))) (fits-signed (b .least) (g .least))) (fits-signed (b .largest) (g .largest)))
+    (ranged-behind (pos (b .start)) (pos (b .count)) (b .least) (b .largest) (flat t ++ r) 0 (length t) ∙ ranged-flat t r (f .1))
+
+pub filled-laid : (n : ℕ) (t : Table) (l : List ℤ) → length t ≤ n → 4 * n ≤ length l → Fitted t → Filled (laid n t l) (length t)
+unfolding laid
+filled-laid n t l h k f =
+    record { there = omega (arith, length-laid n t l h k); ranges = ranged-flat t (zeros (4 * (n - length t)) ++ drop (4 * n) l) f }

@@ -1,0 +1,43 @@
+-- Each public function's contract allows one outcome.
+use mathlib.Core.Path.{_≡_, sym, ap, _∙_}
+use Prim.Native.Nat.{ℕ}
+use mathlib.Core.List.{List}
+use lib.IntN.{ℤ}
+use Rattle.rule.specs.declared.Tally.{Tally}
+use Rattle.rule.specs.Calls.{counted as tallied}
+use Rattle.trace.specs.declared.Answer.{Answer}
+use Rattle.tally.specs.Session.{verdict}
+use Rattle.rule.specs.Outcomes.{OneOutcome}
+use Rattle.rule.proofs.Determined.{both, by-result}
+use Rattle.tally.proofs.counted as counted
+use Rattle.tally.proofs.next as next
+use Rattle.tally.proofs.late as late
+use Rattle.tally.proofs.next_tallied as next-tallied
+use Rattle.tally.proofs.late_tallied as late-tallied
+
+-- a reading's answer, the room and the tally of two outcomes
+record Same (r r′ : Answer) (m m′ : List ℤ) (t t′ : Tally) : Type 0 where
+  answer : r ≡ r′
+  room : m ≡ m′
+  tally : t ≡ t′
+
+same : (before : Tally) (used : ℕ) {o : Answer × List ℤ} {r r′ : Answer} {m m′ : List ℤ} {t t′ : Tally}
+    → ((r, m) ≡ o) × (t ≡ tallied before used (verdict r)) → ((r′, m′) ≡ o) × (t′ ≡ tallied before used (verdict r′)) → Same r r′ m m′ t t′
+same before used p q =
+    let e = p .0 ∙ sym (q .0) in
+    record { answer = λ i. e i .0; room = λ i. e i .1; tally = p .1 ∙ (ap (λ x. tallied before used (verdict (x .0))) e ∙ sym (q .1)) }
+
+pub counted-one : OneOutcome counted.ended (λ M. counted.clauses)
+counted-one M 𝓤 H A mem run κs a g r r′ l l′ = by-result 𝓤
+
+pub next-one : OneOutcome next.ended (λ M. next.clauses)
+next-one M 𝓤 H A mem run κs a g r r′ l l′ = both 𝓤 (λ p q. let e = same (a .1 .1 .1 .0 .now) (a .0 .state .used) p q in (e .answer, λ i. (l .0, (e .room i, (l .1 .1 .0, (e .tally i, l .1 .1 .1 .1))))))
+
+pub late-one : OneOutcome late.ended (λ M. late.clauses)
+late-one M 𝓤 H A mem run κs a g r r′ l l′ = both 𝓤 (λ p q. let e = same (a .1 .1 .1 .1 .0 .now) (a .0 .state .used) p q in (e .answer, λ i. (l .0, (e .room i, (l .1 .1 .0, (l .1 .1 .1 .0, (e .tally i, l .1 .1 .1 .1 .1)))))))
+
+pub next-tallied-one : OneOutcome next-tallied.ended (λ M. next-tallied.clauses)
+next-tallied-one M 𝓤 H A mem run κs a g r r′ l l′ = both 𝓤 (λ p q. let e = same (a .1 .1 .1 .0) (a .0 .state .used) p q in (λ i. record { answer = e .answer i; tally = e .tally i }, λ i. (l .0, (e .room i, l .1 .1))))
+
+pub late-tallied-one : OneOutcome late-tallied.ended (λ M. late-tallied.clauses)
+late-tallied-one M 𝓤 H A mem run κs a g r r′ l l′ = both 𝓤 (λ p q. let e = same (a .1 .1 .1 .1 .0) (a .0 .state .used) p q in (λ i. record { answer = e .answer i; tally = e .tally i }, λ i. (l .0, (e .room i, l .1 .1))))

@@ -1,28 +1,22 @@
-//! The stored commands: many traces of every shape, settings that are refused, and unsound states and rooms, from one seed.
+//! The stored commands: many traces of every shape and order of arrival, settings that are refused, and unsound states and rooms.
 
+use crate::arrivals::{self, Arrivals, ARRIVALS};
 use crate::calls::{self, MOST_GAPS, MOST_STEPS, SLOT};
-use crate::commands::{Command, Session, NUMBERS};
-use crate::commands::{FEED, FEED_LATE, LATE, LOOKUP, NEXT, OPEN, POKE, PRINT, SET, SWEEP};
+use crate::commands::{self, Command, Session, LISTED, NUMBERS};
+use crate::commands::{FACTS, GAPS, KIND, LENT, READINGS, RUNS, STEPS, USED};
+use crate::commands::{FEED, FEED_LATE, OPEN, PRINT, SWEEP};
+use crate::made;
 use crate::random::Random;
-use crate::rule::{self, Bucket, Kind, TICKS};
+use crate::rule::{self, Kind, TICKS};
 use crate::shapes::SHAPES;
 
 const KINDS: [Kind; 2] = [Kind::InOrder, Kind::Late];
-/// How many facts a set command knows, and some of them.
-const FACTS: u8 = 7;
-const STEPS: u8 = 1;
-const GAPS: u8 = 2;
-const USED: u8 = 3;
-const RUNS: u8 = 4;
-const READINGS: u8 = 5;
-const LENT: u8 = 6;
-
 /// Start, count, least, largest.
 type Slot = [i64; SLOT];
 
 /// All the commands, one after the other.
 pub fn input() -> Vec<u8> {
-    let mut script = Script::new();
+    let mut script = Script::new(7);
     script.worked_traces();
     script.settings();
     script.short_traces();
@@ -33,6 +27,16 @@ pub fn input() -> Vec<u8> {
     script.single_faults();
     script.changed_in_order();
     script.changed_late();
+    let mut bytes = script.bytes;
+    bytes.extend(ARRIVALS.iter().flat_map(arriving));
+    bytes
+}
+
+/// Late traces whose ticks arrive so; each begins with its open.
+pub fn arriving(arrivals: &Arrivals) -> Vec<u8> {
+    let mut script = Script::new(8);
+    script.wholly_accepted(arrivals);
+    script.few_runs_allowed(arrivals);
     script.bytes
 }
 
@@ -44,111 +48,61 @@ struct Script {
 }
 
 impl Script {
-    fn new() -> Script {
+    fn new(seed: u64) -> Script {
         Script {
             bytes: Vec::new(),
             session: Session::new(),
-            random: Random::new(7),
+            random: Random::new(seed),
         }
     }
 
     fn give(&mut self, command: Command) {
         self.bytes.extend(command.bytes());
-        self.session.obey(command);
+        self.session.obey(&command, &mut commands::untold);
     }
 
     fn open(&mut self, kind: Kind, steps: u32, gaps: u32, lent: usize) {
-        self.give(Command {
-            opcode: OPEN,
-            choice: kind as u8,
-            first: steps,
-            second: gaps,
-            third: lent as u32,
-            ..Command::default()
-        });
+        self.give(Command::new(OPEN, kind as u8, [steps, gaps, lent as u32]));
     }
 
     fn next(&mut self, value: i32) {
-        self.give(Command {
-            opcode: NEXT,
-            first: value as u32,
-            ..Command::default()
-        });
+        self.give(Command::next(value));
     }
 
     fn poke(&mut self, index: usize, number: i64) {
-        let command = Command {
-            opcode: POKE,
-            first: index as u32,
-            ..Command::default()
-        };
-        self.give(command.with_long(number as u64));
+        self.give(Command::poke(index, number));
     }
 
     fn set(&mut self, which: u8, number: u64) {
-        let command = Command {
-            opcode: SET,
-            choice: which,
-            ..Command::default()
-        };
-        self.give(command.with_long(number));
+        self.give(Command::set(which, number));
     }
 
     fn print(&mut self) {
-        self.give(Command {
-            opcode: PRINT,
-            ..Command::default()
-        });
+        self.give(Command::new(PRINT, 0, [0; 3]));
     }
 
     fn feed(&mut self, shape: u8, count: u32, seed: u32, every: u32) {
-        self.give(Command {
-            opcode: FEED,
-            choice: shape,
-            first: count,
-            second: seed,
-            third: every,
-            ..Command::default()
-        });
+        self.give(Command::new(FEED, shape, [count, seed, every]));
     }
 
     fn feed_late(&mut self, order: u8, shape: u8, count: u32, every: u32) {
         let seed = self.seed();
         self.give(Command {
-            opcode: FEED_LATE,
-            choice: shape,
             order,
-            first: count,
-            second: seed,
-            third: every,
+            ..Command::new(FEED_LATE, shape, [count, seed, every])
         });
     }
 
     fn late(&mut self, tick: u32, value: i32) {
-        self.give(Command {
-            opcode: LATE,
-            first: tick,
-            second: value as u32,
-            ..Command::default()
-        });
+        self.give(Command::late(tick, value));
     }
 
     fn lookup(&mut self, tick: u32) {
-        self.give(Command {
-            opcode: LOOKUP,
-            first: tick,
-            ..Command::default()
-        });
+        self.give(Command::lookup(tick));
     }
 
     fn sweep(&mut self, tick: u32, step: u32, count: u32) {
-        self.give(Command {
-            opcode: SWEEP,
-            first: tick,
-            second: step,
-            third: count,
-            ..Command::default()
-        });
+        self.give(Command::new(SWEEP, 0, [tick, step, count]));
     }
 
     fn seed(&mut self) -> u32 {
@@ -157,12 +111,12 @@ impl Script {
 
     /// A room with no number too many.
     fn open_fitting(&mut self, steps: u32) {
-        let lent = needed(Kind::InOrder, u64::from(steps), 0);
+        let lent = calls::needed_numbers(Kind::InOrder, u64::from(steps), 0);
         self.open(Kind::InOrder, steps, 0, lent);
     }
 
     fn open_late(&mut self, steps: u32, gaps: u32) {
-        let lent = needed(Kind::Late, u64::from(steps), u64::from(gaps));
+        let lent = calls::needed_numbers(Kind::Late, u64::from(steps), u64::from(gaps));
         self.open(Kind::Late, steps, gaps, lent);
     }
 
@@ -217,7 +171,7 @@ impl Script {
                 for kind in KINDS {
                     let steps_there = u64::from(steps).clamp(1, MOST_STEPS);
                     let gaps_there = u64::from(gaps).clamp(1, MOST_GAPS);
-                    let fitting = needed(kind, steps_there, gaps_there);
+                    let fitting = calls::needed_numbers(kind, steps_there, gaps_there);
                     let lent = fitting + 1 - self.random.below(3) as usize;
                     self.poke(fitting - 1, -1);
                     self.poke(fitting, -2);
@@ -250,7 +204,7 @@ impl Script {
             for shape in 0..SHAPES {
                 let seed = self.seed();
                 let extra = self.random.below(40) as usize;
-                let lent = needed(Kind::InOrder, u64::from(steps), 0) + extra;
+                let lent = calls::needed_numbers(Kind::InOrder, u64::from(steps), 0) + extra;
                 self.open(Kind::InOrder, steps, 0, lent);
                 let count = 5 * steps + 500;
                 self.feed(shape, count, seed, count / 6);
@@ -291,6 +245,72 @@ impl Script {
                 self.sweep(3, 97, 8);
             }
         }
+    }
+
+    /// Each tick comes once, and K is at least what the order needs.
+    fn wholly_accepted(&mut self, arrivals: &Arrivals) {
+        for count in [1, 2, 3, 5, 8, 13, 30] {
+            let order = arrivals.order(count as usize, &mut self.random);
+            self.arrive(1 + count % 3, count, &order);
+        }
+        for (steps, count) in [(1, 400), (2, 300), (7, 500), (100, 400), (256, 700)] {
+            let order = arrivals.order(count, &mut self.random);
+            self.arrive(steps, MOST_GAPS as u32, &order);
+        }
+        for (steps, count) in [(1, 300), (32, 600)] {
+            let order = arrivals.order(count, &mut self.random);
+            self.arrive(steps, arrivals::most_runs(&order), &order);
+        }
+    }
+
+    /// K is less than the order needs; then all that was refused comes again, and some of what was taken.
+    fn few_runs_allowed(&mut self, arrivals: &Arrivals) {
+        for (steps, count, part) in [
+            (1, 200, 0),
+            (1, 300, 50),
+            (2, 250, 75),
+            (5, 400, 50),
+            (16, 500, 75),
+            (64, 300, 25),
+            (100, 400, 99),
+            (256, 500, 99),
+        ] {
+            let order = arrivals.order(count, &mut self.random);
+            // So many hundredths of what it needs.
+            let gaps = arrivals::most_runs(&order) * part / 100;
+            let ticks = self.arrive(steps, gaps.max(1), &order);
+            let again: Vec<u16> = ticks
+                .into_iter()
+                .filter(|&tick| !self.holds(tick) || self.random.below(6) == 0)
+                .collect();
+            for some in again.chunks(3) {
+                self.give(Command::list(some));
+            }
+            self.sweep(5, count as u32 / 8, 9);
+        }
+    }
+
+    /// A late trace of these ticks, or all of them as much later, and lookups; answers the ticks.
+    fn arrive(&mut self, steps: u32, gaps: u32, order: &[u32]) -> Vec<u16> {
+        let first = self.random.choice(&[0, 1, 64_000]);
+        let ticks: Vec<u16> = order.iter().map(|&tick| first + tick as u16).collect();
+        self.open_late(steps, gaps);
+        for some in ticks.chunks(LISTED) {
+            let mut command = Command::list(some);
+            if some.len() == LISTED {
+                // A larger number says the same.
+                command.choice = self.random.choice(&[LISTED as u8, 8, u8::MAX]);
+            }
+            self.give(command);
+        }
+        let step = order.len() as u32 / 12 + 1;
+        self.sweep(u32::from(first).wrapping_sub(1), step, 14);
+        ticks
+    }
+
+    fn holds(&self, tick: u16) -> bool {
+        let session = &self.session;
+        calls::lookup(session.state, session.lent_numbers(), u32::from(tick)).is_ok()
     }
 
     /// Traces whose last ticks are near, made by hand: the last reading is taken, the one after it is not.
@@ -411,7 +431,7 @@ impl Script {
         // B and K above their bounds, in room enough.
         for kind in KINDS {
             self.open(kind, 256, 256, NUMBERS);
-            let fitting = needed(kind, MOST_STEPS, MOST_GAPS);
+            let fitting = calls::needed_numbers(kind, MOST_STEPS, MOST_GAPS);
             for index in fitting..fitting + 2 * SLOT {
                 self.poke(index, 0);
             }
@@ -440,12 +460,12 @@ impl Script {
     fn changed_late(&mut self) {
         for _ in 0..16 {
             let steps = self.random.between(1, 3) as u32;
-            let table = self.late_table(2 * steps as usize);
+            let table = made::table(&mut self.random, Kind::Late, 2 * steps as usize);
             let runs = rule::runs(&table);
             let gaps = runs.max(1) + self.random.below(2);
-            let lent = needed(Kind::Late, u64::from(steps), gaps);
+            let lent = calls::needed_numbers(Kind::Late, u64::from(steps), gaps);
             self.open(Kind::Late, steps, gaps as u32, lent);
-            let slots: Vec<Slot> = table.iter().map(slot).collect();
+            let slots: Vec<Slot> = table.iter().map(made::slot).collect();
             self.lay(&slots, runs);
             self.next(1);
             self.lookup(1);
@@ -459,11 +479,14 @@ impl Script {
             let before = self.session.state;
             if self.random.below(3) == 0 {
                 let which = self.random.below(u64::from(FACTS)) as u8;
-                let fact = self.fact(which);
-                let changed = self.other_fact(which, fact);
+                let fact = self.session.fact(which);
+                let changed = made::other_fact(&mut self.random, which, fact);
                 self.set(which, changed);
                 let at_call = self.session.state;
                 self.call();
+                if which == KIND {
+                    self.print();
+                }
                 if which == LENT || self.session.state == at_call {
                     self.set(which, fact);
                 }
@@ -471,7 +494,7 @@ impl Script {
                 let slots = before.used as usize + 2;
                 let index = self.random.below((slots * SLOT) as u64) as usize;
                 let number = self.session.room[index];
-                let changed = self.other_number(number);
+                let changed = made::other_number(&mut self.random, number);
                 self.poke(index, changed);
                 self.call();
                 if self.session.state == before {
@@ -491,87 +514,4 @@ impl Script {
             (_, false) => self.next(2),
         }
     }
-
-    fn fact(&self, which: u8) -> u64 {
-        let state = &self.session.state;
-        match which {
-            0 => state.kind as u64,
-            1 => state.steps,
-            2 => state.gaps,
-            3 => state.used,
-            4 => state.runs,
-            5 => state.readings,
-            _ => self.session.lent,
-        }
-    }
-
-    fn other_fact(&mut self, which: u8, fact: u64) -> u64 {
-        if which == 0 {
-            return 1 - fact;
-        }
-        let ends = [0, 1, 256, 257, TICKS, 1 << 32, 1 << 62, u64::MAX];
-        let end = self.random.choice(&ends);
-        let near = [fact.wrapping_add(1), fact.saturating_sub(1), end];
-        self.random.choice(&near)
-    }
-
-    fn other_number(&mut self, number: i64) -> i64 {
-        let ends = [
-            0,
-            1,
-            -1,
-            i64::from(i32::MAX),
-            i64::from(i32::MAX) + 1,
-            i64::from(i32::MIN),
-            i64::from(i32::MIN) - 1,
-            i64::from(u32::MAX),
-            i64::from(u32::MAX) + 1,
-            TICKS as i64,
-            i64::MAX,
-            i64::MIN,
-        ];
-        let end = self.random.choice(&ends);
-        let far = number.wrapping_add(1 << 32);
-        let near = [
-            number.wrapping_add(1),
-            number.wrapping_sub(1),
-            far,
-            end,
-            end,
-        ];
-        self.random.choice(&near)
-    }
-
-    /// At most as many buckets as said, with or without missing ticks between them.
-    fn late_table(&mut self, most: usize) -> Vec<Bucket> {
-        let mut table = Vec::new();
-        let mut end = 0;
-        for _ in 0..self.random.between(0, most as i64) {
-            let start = end + self.random.choice(&[0, 0, 1, 3]);
-            let count = self.random.choice(&[1, 1, 2, 5]);
-            let least = self.random.between(-3, 3);
-            let spread = if count == 1 {
-                0
-            } else {
-                self.random.between(0, 3)
-            };
-            table.push(Bucket {
-                start,
-                count,
-                least,
-                largest: least + spread,
-            });
-            end = start + count;
-        }
-        table
-    }
-}
-
-fn slot(bucket: &Bucket) -> Slot {
-    let [start, count] = [bucket.start as i64, bucket.count as i64];
-    [start, count, bucket.least, bucket.largest]
-}
-
-fn needed(kind: Kind, steps: u64, gaps: u64) -> usize {
-    calls::needed_slots(kind, steps, gaps) * SLOT
 }

@@ -1,9 +1,10 @@
-//! What the second program is asked for by name: the listing and inputs for it, the table of one bucket's arithmetic, the calls and their input, the sample.
+//! What the second program is asked for by name: the listing and inputs for it, the sample, and what the compared programs read and write.
 
 use second::rule::Bucket;
-use second::{commands, commands_input, lines, listing, sample};
+use second::told::{self, Form};
+use second::{commands_input, files, lines, listing, sample, script, session};
 use std::fmt::Write as _;
-use std::io::{self, Read as _, Write as _};
+use std::io::{self, Write};
 use std::process::ExitCode;
 
 /// Readings at the ends of the range, about zero and between, odd and even.
@@ -23,21 +24,18 @@ const VALUES: [i64; 13] = [
     2147483647,
 ];
 
+const USAGE: &str =
+    "second list | buckets | calls [whole] | calls-input | files | lines N | sample [READINGS] | session | script SEED COUNT | script-counts SEED COUNT";
+
 fn main() -> ExitCode {
-    let output = match std::env::args().nth(1).as_deref() {
-        Some("lines") => numbered(),
-        Some("list") => listing::list(io::stdin().lock()),
-        Some("buckets") => Ok(buckets().into_bytes()),
-        Some("calls") => whole_input().map(|input| commands::obey_all(&input).into_bytes()),
-        Some("calls-input") => Ok(commands_input::input()),
-        Some("sample") => Ok(sample::sample().into_bytes()),
-        _ => {
-            eprintln!("usage: second list | buckets | calls | calls-input | lines N | sample");
-            return ExitCode::from(2);
+    let arguments: Vec<String> = std::env::args().skip(1).collect();
+    let words: Vec<&str> = arguments.iter().map(String::as_str).collect();
+    match answer(&words, &mut io::stdout().lock()) {
+        Ok(true) => ExitCode::SUCCESS,
+        Ok(false) => {
+            eprintln!("usage: {USAGE}");
+            ExitCode::from(2)
         }
-    };
-    match output.and_then(|bytes| io::stdout().write_all(&bytes)) {
-        Ok(()) => ExitCode::SUCCESS,
         Err(error) => {
             eprintln!("second: {error}");
             ExitCode::FAILURE
@@ -45,19 +43,42 @@ fn main() -> ExitCode {
     }
 }
 
-/// The listing's input of the number that is the second argument; none past the last.
-fn numbered() -> io::Result<Vec<u8>> {
-    let number = std::env::args().nth(2).and_then(|text| text.parse().ok());
-    match number.filter(|&number| number < lines::INPUTS) {
-        Some(number) => Ok(lines::input(number)),
-        None => Err(io::Error::other("no input of that number")),
+/// Writes what is asked for; answers whether it is known.
+fn answer(words: &[&str], out: &mut impl Write) -> io::Result<bool> {
+    match words {
+        ["lines", number] => out.write_all(&lines::input(numbered(number)?))?,
+        ["list"] => out.write_all(&listing::list(io::stdin().lock())?)?,
+        ["buckets"] => out.write_all(buckets().as_bytes())?,
+        ["calls"] => told::obey_all(Form::Checksums, io::stdin().lock(), out)?,
+        ["calls", "whole"] => told::obey_all(Form::Whole, io::stdin().lock(), out)?,
+        ["calls-input"] => out.write_all(&commands_input::input())?,
+        ["files"] => out.write_all(files::lines().as_bytes())?,
+        ["sample"] => out.write_all(sample::sample(sample::READINGS).as_bytes())?,
+        ["sample", readings] => out.write_all(sample::sample(number(readings)?).as_bytes())?,
+        ["session"] => out.write_all(session::lines().as_bytes())?,
+        ["script", seed, count] => {
+            script::write(number(seed)?, number(count)?, out)?;
+        }
+        ["script-counts", seed, count] => {
+            let counts = script::write(number(seed)?, number(count)?, &mut io::sink())?;
+            write!(out, "{counts}")?;
+        }
+        _ => return Ok(false),
     }
+    Ok(true)
 }
 
-fn whole_input() -> io::Result<Vec<u8>> {
-    let mut input = Vec::new();
-    io::stdin().lock().read_to_end(&mut input)?;
-    Ok(input)
+fn number(text: &str) -> io::Result<u64> {
+    text.parse().map_err(io::Error::other)
+}
+
+/// The number of one of the listing's inputs; none past the last.
+fn numbered(text: &str) -> io::Result<u64> {
+    let number = number(text)?;
+    if number < lines::INPUTS {
+        return Ok(number);
+    }
+    Err(io::Error::other("no input of that number"))
 }
 
 /// Least, largest, level, error and spread of each bucket whose ends are two of the values.

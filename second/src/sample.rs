@@ -3,7 +3,7 @@
 use crate::random::Random;
 use std::fmt::Write;
 
-/// The first tick of each phase and its millivolts.
+/// The first tick of each phase, where the trace is as long as the shipped one, and its millivolts.
 const PHASES: [(i64, i64); 6] = [
     (0, 60),
     (360, 12_050),
@@ -12,31 +12,38 @@ const PHASES: [(i64, i64); 6] = [
     (1_960, 60),
     (2_240, 12_050),
 ];
-const READINGS: i64 = 2_400;
+pub const READINGS: u64 = 2_400;
 /// Readings that a switching takes.
 const RAMP: i64 = 4;
 const NOISE: i64 = 18;
-const DROP: [i64; 2] = [1_500, 1_501];
+/// The first tick of the drop, where the trace is as long as the shipped one, and its readings.
+const DROP: i64 = 1_500;
+const DROP_READINGS: i64 = 2;
 const DROP_LEVEL: i64 = 7_400;
 
-/// One reading a line, in order, as the listing program reads them.
-pub fn sample() -> String {
+/// So many readings, one a line, in order, as the listing program reads them. In a longer trace each phase is longer, but
+/// switching takes as many readings as ever, and so does the drop.
+pub fn sample(readings: u64) -> String {
+    let readings = readings as i64;
     let mut random = Random::new(1);
     let mut lines = String::new();
-    for tick in 0..READINGS {
+    for tick in 0..readings {
         let noise = random.between(-NOISE, NOISE);
-        writeln!(lines, "{}", quiet_level(tick) + noise).expect("a string takes any text");
+        writeln!(lines, "{}", quiet_level(tick, readings) + noise)
+            .expect("a string takes any text");
     }
     lines
 }
 
-fn quiet_level(tick: i64) -> i64 {
-    if DROP.contains(&tick) {
+fn quiet_level(tick: i64, readings: i64) -> i64 {
+    let moved = |first: i64| first * readings / READINGS as i64;
+    let drop = moved(DROP);
+    if (drop..drop + DROP_READINGS).contains(&tick) {
         return DROP_LEVEL;
     }
-    let phase = PHASES.partition_point(|&(first, _)| first <= tick) - 1;
+    let phase = PHASES.partition_point(|&(first, _)| moved(first) <= tick) - 1;
     let (first, level) = PHASES[phase];
-    let since = tick - first;
+    let since = tick - moved(first);
     if phase == 0 || since >= RAMP {
         return level;
     }

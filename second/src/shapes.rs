@@ -54,13 +54,19 @@ impl Shape {
         match self {
             Shape::Constant => seed as i32,
             Shape::Ramp => (u64::from(seed) + 3 * u64::from(turn)) as u32 as i32,
-            Shape::Square if position % 37 == 36 => 7_400,
-            Shape::Square if position % 100 < 50 => 60,
-            Shape::Square => 12_050,
+            Shape::Square => square(position),
             Shape::Noise => (noise % 2_001) as i32 - 1_000,
             Shape::FewLevels => (noise % 4) as i32,
             Shape::FullSwings => noise as i32,
         }
+    }
+}
+
+pub fn square(position: u64) -> i32 {
+    match (position % 37, position % 100) {
+        (36, _) => 7_400,
+        (_, 0..50) => 60,
+        _ => 12_050,
     }
 }
 

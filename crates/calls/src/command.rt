@@ -1,4 +1,4 @@
-// One command: an opcode, a choice, an order, and three numbers of 32 bits, low byte first, of which two may stand for one of 64.
+// One command: an opcode, a choice, an order, and three numbers of 32 bits, low byte first, of which two may stand for one of 64; or all past the choice as seven ticks of 16 bits.
 ghost use Prim.Native.Nat.{_+_, _≤_, _<_};
 ghost use lib.ListN.{length};
 
@@ -6,6 +6,7 @@ pub struct Command {
     pub opcode: u8,
     pub choice: u8,
     pub order: u8,
+    pub above: u8,
     pub first: u32,
     pub second: u32,
     pub third: u32,
@@ -15,6 +16,19 @@ impl Command {
     // The second number and, above it, the third.
     pub fn long(self) -> u64 {
         self.second as u64 + self.third as u64 * 4294967296
+    }
+
+    // The listed tick at a place from 0 to 6.
+    pub fn tick(self, place: usize) -> u32 {
+        match place {
+            0 => self.order as u32 + self.above as u32 * 256,
+            1 => self.first % 65536,
+            2 => self.first / 65536,
+            3 => self.second % 65536,
+            4 => self.second / 65536,
+            5 => self.third % 65536,
+            _ => self.third / 65536,
+        }
     }
 }
 
@@ -33,7 +47,6 @@ fn word(input: &[u8], at: usize) -> u32
         + wide(input[at + 3]) * 16777216
 }
 
-// Byte 3 is not read.
 pub fn read(input: &[u8], at: usize) -> Command
     requires { ⌜ at + 16 ≤ length (now input) ⌝ }
 {
@@ -41,6 +54,7 @@ pub fn read(input: &[u8], at: usize) -> Command
         opcode: input[at],
         choice: input[at + 1],
         order: input[at + 2],
+        above: input[at + 3],
         first: word(input, at + 4),
         second: word(input, at + 8),
         third: word(input, at + 12),

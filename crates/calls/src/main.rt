@@ -170,6 +170,17 @@ fn feed(c: Command, facts: &mut [usize; 7], room: &mut [i64]) {
     }
 }
 
+// Late readings at the ticks that the command lists, each the square wave's at its tick; what the last one leaves is written.
+fn list(c: Command, facts: &mut [usize; 7], room: &mut [i64]) {
+    let count = least(c.choice as usize, 7);
+    let mut turn = 0;
+    while turn < count {
+        let tick = c.tick(turn);
+        turn += 1;
+        late(11, tick, shape::square_at(tick), turn == count, facts, room);
+    }
+}
+
 // Lookups a step apart.
 fn sweep(c: Command, facts: &[usize; 7], room: &[i64]) {
     let count = c.third;
@@ -211,6 +222,10 @@ fn call(c: Command, facts: &mut [usize; 7], room: &mut [i64]) {
     }
     if opcode == 10 {
         sweep(c, facts, room);
+        return;
+    }
+    if opcode == 11 {
+        list(c, facts, room);
     }
 }
 
@@ -236,18 +251,28 @@ fn obey(c: Command, facts: &mut [usize; 7], room: &mut [i64]) {
     call(c, facts, &mut room[0..lent]);
 }
 
-fn run(input: &[u8]) {
-    let mut facts = FACTS;
-    let mut room = [0i64; 4096];
+// Every whole command of one piece of the input.
+fn run(input: &[u8], facts: &mut [usize; 7], room: &mut [i64]) {
     let mut at = 0;
     while at + 16 <= input.len() {
-        obey(command::read(input, at), &mut facts, &mut room);
+        obey(command::read(input, at), facts, room);
         at += 16;
     }
 }
 
+// A piece is full unless the input ends in it, so each but the last is a number of whole commands.
 fn main() {
-    let mut input = io::large_buffer();
-    let count = io::read_full(libc::STDIN_FILENO, &mut input);
-    run(&input[..count]);
+    let mut facts = FACTS;
+    let mut room = [0i64; 4096];
+    let mut piece = io::large_buffer();
+    let mut turns: u64 = 18446744073709551615;
+    while 0 < turns {
+        let count = io::read_full(libc::STDIN_FILENO, &mut piece);
+        if count == 0 {
+            turns = 0;
+        } else {
+            run(&piece[0..count], &mut facts, &mut room);
+            turns -= 1;
+        }
+    }
 }

@@ -36,6 +36,11 @@ pub fn reading(shape: u8, seed: u32, turn: u32, noise: u32) -> i32 {
     signed32(shaped(shape, seed, turn, noise))
 }
 
+// The square wave's reading that belongs to a tick.
+pub fn square_at(tick: u32) -> i32 {
+    signed32(square(tick as u64))
+}
+
 // Of each sixteen ticks every second one first, then those between.
 fn alternate(turn: u32) -> u32 {
     turn - turn % 16 + turn % 8 * 2 + turn % 16 / 8

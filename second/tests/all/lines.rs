@@ -153,7 +153,7 @@ fn the_listing_shows_what_the_calls_keep() {
 
 #[test]
 fn the_sample_shows_its_two_reading_drop() {
-    let output = listed(&second::sample::sample());
+    let output = listed(&second::sample::sample(second::sample::READINGS));
     assert!(output.contains("\n1500 2 7383 7414 7398\n"));
     assert!(output.ends_with("total 2400 64 18\n"));
 }

@@ -7,7 +7,7 @@ use Rattle.calls.proofs.run.Statement.{statement}
 use Rattle.calls.proofs.run.Tie as tie
 
 abbrev Inv-loop : tie.InvT-loop
-Inv-loop input facts₀ room₀ at₀ facts room at = (at ≤ length input) × (length room ≡ 4096)
+Inv-loop input facts₀ room₀ at₀ facts room at = (at ≤ length input) × (length room ≡ length room₀)
 
 abbrev μ-loop : tie.MeasureT-loop
 μ-loop input facts₀ room₀ at₀ facts room at = length input - at
@@ -21,9 +21,6 @@ add-loop c = search needs
 read-requires : tie.Need-read-requires Inv-loop μ-loop
 read-requires c κs = search needs
 
-slice-aggregate-obey : tie.Need-slice-aggregate-obey Inv-loop μ-loop
-slice-aggregate-obey c = search needs
-
 obey-requires : tie.Need-obey-requires Inv-loop μ-loop
 obey-requires c κs = search needs
 
@@ -35,6 +32,9 @@ loop-less c = search needs
 
 loop-again : tie.Need-loop-again Inv-loop μ-loop
 loop-again c = search needs
+
+same-length : tie.Need-same-length Inv-loop μ-loop
+same-length c = search needs
 
 returns : tie.Need-returns Inv-loop μ-loop
 returns c = search needs
@@ -48,9 +48,9 @@ run-spec =
     loop-holds
     add-loop
     read-requires
-    slice-aggregate-obey
     obey-requires
     add-at
     loop-less
     loop-again
+    same-length
     returns)

@@ -1,0 +1,170 @@
+/* Times the library and plain C on the same readings in one run, and fails where they differ in an answer or a number of the room. */
+#include "plain.h"
+#include <inttypes.h>
+#include <stdio.h>
+#include <stdlib.h>
+#include <string.h>
+#include <time.h>
+
+#define NUMBERS (NDZ_SLOT * (2 * 256 + 256 + 1))
+
+typedef ndz_answer (*next_call)(ndz_state, int64_t *, size_t, int32_t);
+typedef ndz_answer (*late_call)(ndz_state, int64_t *, size_t, uint32_t, int32_t);
+
+static int64_t library_room[NUMBERS], plain_room[NUMBERS];
+
+static double now(void)
+{
+    struct timespec t;
+    clock_gettime(CLOCK_PROCESS_CPUTIME_ID, &t);
+    return (double)t.tv_sec + 1e-9 * (double)t.tv_nsec;
+}
+
+static void fail(const char *what)
+{
+    printf("differs: %s\n", what);
+    exit(1);
+}
+
+/* A square wave of 60 and 12,050 with noise, and a dip at every 37th tick. */
+static int32_t value_at(uint32_t tick)
+{
+    uint32_t noise = tick * 2654435761u >> 24;
+    if (tick % 37 == 36)
+        return (int32_t)(7400 + noise);
+    return (int32_t)((tick % 1000 < 500 ? 60 : 12050) + noise);
+}
+
+/* The late readings grow 256 stretches, 4,096 ticks apart at least, one reading of each in turn. */
+static uint32_t tick_of(uint32_t turn)
+{
+    return turn % 256 * 65536 + turn / 256;
+}
+
+static double feed_next(next_call call, ndz_state *state, int64_t *room, size_t numbers, uint32_t readings)
+{
+    double begun = now();
+    for (uint32_t i = 0; i < readings; i++) {
+        ndz_answer a = call(*state, room, numbers, value_at(i));
+        if (a.refusal)
+            fail("a reading is refused");
+        *state = a.state;
+    }
+    return now() - begun;
+}
+
+static double feed_late(late_call call, ndz_state *state, int64_t *room, size_t numbers, uint32_t readings)
+{
+    double begun = now();
+    for (uint32_t i = 0; i < readings; i++) {
+        ndz_answer a = call(*state, room, numbers, tick_of(i), value_at(i));
+        if (a.refusal)
+            fail("a late reading is refused");
+        *state = a.state;
+    }
+    return now() - begun;
+}
+
+/* What the check alone takes: a lookup past the last tick checks state and room and is then refused. */
+static double check_only(const ndz_state *state, const int64_t *room, size_t numbers, uint32_t turns)
+{
+    double begun = now();
+    for (uint32_t i = 0; i < turns; i++)
+        if (ndz_lookup(*state, room, numbers, NDZ_LAST_TICK + 1 + i % 2).refusal != NDZ_TICK)
+            fail("the lookup past the last tick");
+    return now() - begun;
+}
+
+static void same(const ndz_state *a, const ndz_state *b, size_t numbers)
+{
+    if (memcmp(a, b, sizeof *a) != 0 || memcmp(library_room, plain_room, numbers * sizeof *plain_room) != 0)
+        fail("the traces");
+}
+
+static void line(const char *what, uint32_t turns, double library, double plain)
+{
+    printf("| %s | %.0f | %.0f | %.2f |\n", what, 1e9 * library / turns, 1e9 * plain / turns, library / plain);
+    fflush(stdout);
+}
+
+static void readings(uint64_t kind, uint64_t steps, uint64_t gaps, uint32_t count, int unchecked)
+{
+    size_t numbers = NDZ_SLOT * ndz_slots(kind, steps, gaps);
+    ndz_state library = ndz_open(kind, steps, gaps, library_room, numbers).state;
+    ndz_state plain = plain_open(kind, steps, gaps, plain_room, numbers).state;
+    double of_library, of_plain;
+    plain_checks = 1;
+    if (kind) {
+        of_library = feed_late(ndz_late, &library, library_room, numbers, count);
+        of_plain = feed_late(plain_late, &plain, plain_room, numbers, count);
+    } else {
+        of_library = feed_next(ndz_next, &library, library_room, numbers, count);
+        of_plain = feed_next(plain_next, &plain, plain_room, numbers, count);
+    }
+    same(&library, &plain, numbers);
+    char what[80];
+    snprintf(what, sizeof what, "%s, B = %" PRIu64 "%s", kind ? "late" : "next", steps, kind ? ", K = 256" : "");
+    line(what, count, of_library, of_plain);
+    if (!unchecked)
+        return;
+    double check = check_only(&library, library_room, numbers, count);
+    plain = plain_open(kind, steps, gaps, plain_room, numbers).state;
+    plain_checks = 0;
+    of_plain = kind ? feed_late(plain_late, &plain, plain_room, numbers, count) : feed_next(plain_next, &plain, plain_room, numbers, count);
+    same(&library, &plain, numbers);
+    snprintf(what, sizeof what, "the same without the check");
+    line(what, count, of_library - check, of_plain);
+}
+
+static void files(uint32_t turns)
+{
+    size_t numbers = NUMBERS;
+    ndz_state state = ndz_open(NDZ_LATE, 256, 256, library_room, numbers).state;
+    feed_late(ndz_late, &state, library_room, numbers, 100000);
+    uint8_t mine[NDZ_RECORD_BYTES * 768], other[NDZ_RECORD_BYTES * 768];
+    memset(mine, 0, sizeof mine);
+    memset(other, 0, sizeof other);
+    double begun = now();
+    for (uint32_t i = 0; i < turns; i++)
+        if (ndz_save(state, library_room, numbers, mine, sizeof mine).buckets != state.used)
+            fail("save");
+    double of_library = now() - begun;
+    begun = now();
+    for (uint32_t i = 0; i < turns; i++)
+        if (plain_save(state, library_room, numbers, other, sizeof other).buckets != state.used)
+            fail("plain save");
+    double of_plain = now() - begun;
+    if (memcmp(mine, other, sizeof mine) != 0)
+        fail("the files");
+    char what[80];
+    snprintf(what, sizeof what, "save of %" PRIu64 " buckets", state.used);
+    line(what, turns, of_library, of_plain);
+    size_t bytes = NDZ_RECORD_BYTES * state.used;
+    begun = now();
+    for (uint32_t i = 0; i < turns; i++)
+        if (ndz_load(NDZ_LATE, 256, 256, mine, bytes, library_room, numbers).refusal)
+            fail("load");
+    of_library = now() - begun;
+    begun = now();
+    for (uint32_t i = 0; i < turns; i++)
+        if (plain_load(NDZ_LATE, 256, 256, mine, bytes, plain_room, numbers).refusal)
+            fail("plain load");
+    of_plain = now() - begun;
+    if (memcmp(library_room, plain_room, sizeof plain_room) != 0)
+        fail("the loaded rooms");
+    snprintf(what, sizeof what, "load of %" PRIu64 " buckets", state.used);
+    line(what, turns, of_library, of_plain);
+}
+
+int main(int argc, char **argv)
+{
+    uint32_t count = argc > 1 ? (uint32_t)strtoul(argv[1], NULL, 10) : 2000000;
+    printf("| call | library, ns | plain C, ns | ratio |\n|---|---|---|---|\n");
+    readings(NDZ_IN_ORDER, 32, 0, count, 1);
+    readings(NDZ_LATE, 256, 256, count, 1);
+    static const uint64_t sizes[] = {1, 4, 16, 64, 256};
+    for (int i = 0; i < 5; i++)
+        readings(NDZ_IN_ORDER, sizes[i], 0, count / 10, 0);
+    files(count / 100);
+    return 0;
+}

@@ -1,0 +1,51 @@
+/* What the listing program does for a trace in order of 32 steps, in plain C: one reading a line, then the steps. Errors end it. */
+#include "plain.h"
+#include <inttypes.h>
+#include <stdio.h>
+
+#define NUMBERS (NDZ_SLOT * (2 * NDZ_DEFAULT_STEPS + 1))
+
+static char input[65536];
+static size_t have, at;
+
+static int next_byte(void)
+{
+    if (at == have) {
+        have = fread(input, 1, sizeof input, stdin);
+        at = 0;
+        if (have == 0)
+            return EOF;
+    }
+    return (unsigned char)input[at++];
+}
+
+int main(void)
+{
+    int64_t room[NUMBERS];
+    ndz_answer trace = plain_open(NDZ_IN_ORDER, NDZ_DEFAULT_STEPS, 0, room, NUMBERS);
+    for (int byte = next_byte(); byte != EOF; byte = next_byte()) {
+        int negative = byte == '-', digits = 0;
+        int64_t value = 0;
+        if (negative)
+            byte = next_byte();
+        for (; byte >= '0' && byte <= '9' && digits < 10; byte = next_byte(), digits++)
+            value = 10 * value + (byte - '0');
+        if (negative)
+            value = -value;
+        if ((byte != '\n' && byte != EOF) || digits == 0 || value < INT32_MIN || value > INT32_MAX)
+            return 1;
+        trace = plain_next(trace.state, room, NUMBERS, (int32_t)value);
+        if (trace.refusal)
+            return 1;
+    }
+    int64_t worst = 0;
+    for (uint64_t i = 0; i < trace.state.used; i++) {
+        const int64_t *b = room + NDZ_SLOT * i;
+        int64_t level = (b[2] + b[3]) / 2, error = b[3] - level > level - b[2] ? b[3] - level : level - b[2];
+        if (error > worst)
+            worst = error;
+        printf("%" PRId64 " %" PRId64 " %" PRId64 " %" PRId64 " %" PRId64 "\n", b[0], b[1], b[2], b[3], level);
+    }
+    printf("total %" PRIu64 " %" PRIu64 " %" PRId64 "\n", trace.state.readings, trace.state.used, worst);
+    return 0;
+}

@@ -1,0 +1,35 @@
+-- `ndezulangi::showing` meets its contract: its arms are those of the definition.
+use borrow.Author.Needs.{needs}
+use mir.Syntax.{w32}
+use Rattle.rule.proofs.Signed.{read}
+use Rattle.ndezulangi.specs.Plain.{showing}
+use Rattle.ndezulangi.proofs.showing.Statement.{statement}
+use Rattle.ndezulangi.proofs.showing.Tie as tie
+
+enum-known-f : tie.Need-enum-known-f
+enum-known-f c = search needs
+
+enum-known-f-2 : tie.Need-enum-known-f-2
+enum-known-f-2 c = search needs
+
+number-requires : tie.Need-number-requires
+number-requires c κs = search needs
+
+place-requires : tie.Need-place-requires
+place-requires c κs = search needs
+
+returns : tie.Need-returns
+unfolding showing
+returns c =
+    let x = c .before .f .given .0 in
+    let k = c .known-told .given in
+    rw (c .before .f .given .1, read w32 (x .0) (k .0 .1), read w32 (x .1 .1 .0) (k .1 .1 .0 .1), read w32 (x .1 .1 .1 .0) (k .1 .1 .1 .0 .1))
+
+returns-2 : tie.Need-returns-2
+unfolding showing
+returns-2 c = rw (c .before .before .before .f2 .given .1, c .before .number .ensures, c .place .ensures)
+
+pub showing-spec : {M : Type 1} → statement M
+showing-spec =
+    tie.close
+    (tie.spec enum-known-f enum-known-f-2 number-requires place-requires returns returns-2)

@@ -1,0 +1,61 @@
+-- The state as plain fields, and each answer as a plain record: refusal 0 where the call was accepted, else document 01's number and place.
+use Prim.Native.Nat.{ℕ, zero, suc}
+use mathlib.Core.List.{List}
+use lib.IntN.{ℤ, pos}
+use Rattle.rule.specs.declared.Kind.{Kind}
+use Rattle.rule.specs.declared.Kind.the-variants.{InOrder, Late}
+use Rattle.rule.specs.declared.Settings.{Settings}
+use Rattle.rule.specs.declared.State.{State}
+use Rattle.rule.specs.declared.Found.{Found}
+use Rattle.rule.specs.declared.Written.{Written}
+use Rattle.rule.specs.Answers.{number, place}
+use Rattle.trace.specs.declared.Answer.{Answer}
+use Rattle.ndezulangi.specs.declared.Fields.{Fields}
+use Rattle.ndezulangi.specs.declared.Reply.{Reply}
+use Rattle.ndezulangi.specs.declared.Shown.{Shown}
+use Rattle.ndezulangi.specs.declared.Counted.{Counted}
+
+-- 0 is in order, any other number late
+unfoldable pub kindOf : ℕ → Kind
+kindOf zero = InOrder
+kindOf (suc n) = Late
+
+unfoldable pub numberOf : Kind → ℕ
+numberOf InOrder = 0
+numberOf Late = 1
+
+abbrev pub settingsOf : ℕ → ℕ → ℕ → Settings
+settingsOf kind steps gaps = record { kind = kindOf kind; steps = steps; gaps = gaps }
+
+abbrev pub stateOf : Fields → State
+stateOf f = record { settings = settingsOf (f .kind) (f .steps) (f .gaps); used = f .used; runs = f .runs; readings = f .readings }
+
+abbrev pub fieldsOf : State → Fields
+fieldsOf s = record { kind = numberOf (s .settings .kind); steps = s .settings .steps; gaps = s .settings .gaps; used = s .used; runs = s .runs; readings = s .readings }
+
+-- the state that a refused open or load answers: no call accepts it
+abbrev pub none : Fields
+none = record { kind = 0; steps = 0; gaps = 0; used = 0; runs = 0; readings = 0 }
+
+-- accepted: the next state; refused: the state that was given
+unfoldable pub replying : Fields → Answer → Reply
+replying given (Answer.Accepted t) = record { refusal = 0; place = 0; state = fieldsOf (t .state) }
+replying given (Answer.Refused r) = record { refusal = number r; place = place r; state = given }
+
+-- with the room afterwards
+abbrev pub replied : Fields → Answer × List ℤ → Reply × List ℤ
+replied given a = (replying given (a .0), a .1)
+
+-- refused: zeros
+unfoldable pub showing : Found → Shown
+showing (Found.Level level error least largest) = record { refusal = 0; place = 0; level = level; error = error; least = least; largest = largest }
+showing (Found.Refused r) = record { refusal = number r; place = place r; level = pos 0; error = 0; least = pos 0; largest = pos 0 }
+
+-- refused: no bucket
+unfoldable pub telling : Written → Counted
+telling (Written.Buckets n) = record { refusal = 0; place = 0; buckets = n }
+telling (Written.Refused r) = record { refusal = number r; place = place r; buckets = 0 }
+
+-- with the output afterwards
+abbrev pub told : {A : Type 0} → Written × List A → Counted × List A
+told w = (telling (w .0), w .1)

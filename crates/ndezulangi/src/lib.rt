@@ -1,0 +1,247 @@
+// The calls for other languages: plain C functions over lent numbers and bytes, the state as plain fields. include/ndezulangi.h is their manual.
+// Each hands on to the call of its name and does nothing of its own.
+ghost use mathlib.Core.Path.{_≡_};
+ghost use Rattle.rule.specs.Calls.{lateOutcome, loaded, lookupOutcome, nextOutcome, opened, saveOutcome};
+ghost use Rattle.row.specs.Parts.{numbersOutcome};
+ghost use Rattle.trace.specs.Answers.{answered};
+ghost use Rattle.ndezulangi.specs.Plain.{fieldsOf, kindOf, none, numberOf, replied, replying, settingsOf, showing, stateOf, telling, told};
+use rule::Found;
+use rule::Kind;
+use rule::Refusal;
+use rule::Settings;
+use rule::State;
+use rule::Written;
+use trace::Answer;
+use trace::Trace;
+
+// A state: its kind is 0 in order and any other number late; B, K, slots in use, runs, readings.
+#[repr(C)]
+pub struct Fields {
+    pub kind: usize,
+    pub steps: usize,
+    pub gaps: usize,
+    pub used: usize,
+    pub runs: usize,
+    pub readings: usize,
+}
+
+// Refusal 0 where the call was accepted: then the state is the next one, else the one that was given.
+#[repr(C)]
+pub struct Reply {
+    pub refusal: u32,
+    pub place: usize,
+    pub state: Fields,
+}
+
+// What a lookup shows; zeros where it is refused.
+#[repr(C)]
+pub struct Shown {
+    pub refusal: u32,
+    pub place: usize,
+    pub level: i32,
+    pub error: u32,
+    pub least: i32,
+    pub largest: i32,
+}
+
+// How many buckets were written; 0 where it is refused.
+#[repr(C)]
+pub struct Counted {
+    pub refusal: u32,
+    pub place: usize,
+    pub buckets: usize,
+}
+
+fn kind_of(number: usize) -> Kind
+    ensures { λ r. ⌜ r ≡ kindOf number ⌝ }
+{
+    if number == 0 {
+        Kind::InOrder
+    } else {
+        Kind::Late
+    }
+}
+
+fn number_of(kind: Kind) -> usize
+    ensures { λ r. ⌜ r ≡ numberOf kind ⌝ }
+{
+    match kind {
+        Kind::InOrder => 0,
+        Kind::Late => 1,
+    }
+}
+
+fn settings_of(kind: usize, steps: usize, gaps: usize) -> Settings
+    ensures { λ r. ⌜ r ≡ settingsOf kind steps gaps ⌝ }
+{
+    let kind = kind_of(kind);
+    Settings { kind, steps, gaps }
+}
+
+fn trace_of(f: Fields) -> Trace
+    ensures { λ r. ⌜ r .state ≡ stateOf f ⌝ }
+{
+    let settings = settings_of(f.kind, f.steps, f.gaps);
+    Trace {
+        state: State {
+            settings,
+            used: f.used,
+            runs: f.runs,
+            readings: f.readings,
+        },
+    }
+}
+
+fn fields_of(s: State) -> Fields
+    ensures { λ r. ⌜ r ≡ fieldsOf s ⌝ }
+{
+    let settings = s.settings;
+    let kind = settings.kind;
+    Fields {
+        kind: number_of(kind),
+        steps: settings.steps,
+        gaps: settings.gaps,
+        used: s.used,
+        runs: s.runs,
+        readings: s.readings,
+    }
+}
+
+fn replying(given: Fields, a: Answer) -> Reply
+    ensures { λ r. ⌜ r ≡ replying given a ⌝ }
+{
+    match a {
+        Answer::Accepted(t) => Reply {
+            refusal: 0,
+            place: 0,
+            state: fields_of(t.state),
+        },
+        Answer::Refused(r) => Reply {
+            refusal: r.number(),
+            place: r.place(),
+            state: given,
+        },
+    }
+}
+
+// The state that a refused open or load answers: no call accepts it.
+fn none() -> Fields
+    ensures { λ r. ⌜ r ≡ none ⌝ }
+{
+    Fields {
+        kind: 0,
+        steps: 0,
+        gaps: 0,
+        used: 0,
+        runs: 0,
+        readings: 0,
+    }
+}
+
+fn showing(f: Found) -> Shown
+    ensures { λ r. ⌜ r ≡ showing f ⌝ }
+{
+    match f {
+        Found::Level {
+            level,
+            error,
+            least,
+            largest,
+        } => Shown {
+            refusal: 0,
+            place: 0,
+            level,
+            error,
+            least,
+            largest,
+        },
+        Found::Refused(r) => Shown {
+            refusal: r.number(),
+            place: r.place(),
+            level: 0,
+            error: 0,
+            least: 0,
+            largest: 0,
+        },
+    }
+}
+
+fn telling(w: Written) -> Counted
+    ensures { λ r. ⌜ r ≡ telling w ⌝ }
+{
+    match w {
+        Written::Buckets(n) => Counted {
+            refusal: 0,
+            place: 0,
+            buckets: n,
+        },
+        Written::Refused(r) => Counted {
+            refusal: r.number(),
+            place: r.place(),
+            buckets: 0,
+        },
+    }
+}
+
+#[no_mangle]
+pub extern "C" fn ndz_open(kind: usize, steps: usize, gaps: usize, room: &mut [i64]) -> Reply
+    ensures { λ r. ⌜ (r, now (room .exit)) ≡ replied none (answered (opened (settingsOf kind steps gaps) (now (room .entry)))) ⌝ }
+{
+    let settings = settings_of(kind, steps, gaps);
+    replying(none(), Trace::open(settings, &mut *room))
+}
+
+#[no_mangle]
+pub extern "C" fn ndz_next(state: Fields, room: &mut [i64], value: i32) -> Reply
+    ensures { λ r. ⌜ (r, now (room .exit)) ≡ replied state (answered (nextOutcome (stateOf state) (now (room .entry)) value)) ⌝ }
+{
+    let trace = trace_of(state);
+    replying(state, trace.next(&mut *room, value))
+}
+
+#[no_mangle]
+pub extern "C" fn ndz_late(state: Fields, room: &mut [i64], tick: u32, value: i32) -> Reply
+    ensures { λ r. ⌜ (r, now (room .exit)) ≡ replied state (answered (lateOutcome (stateOf state) (now (room .entry)) tick value)) ⌝ }
+{
+    let trace = trace_of(state);
+    replying(state, trace.late(&mut *room, tick, value))
+}
+
+#[no_mangle]
+pub extern "C" fn ndz_lookup(state: Fields, room: &[i64], tick: u32) -> Shown
+    ensures { λ r. ⌜ r ≡ showing (lookupOutcome (stateOf state) (now (room .entry)) tick) ⌝ }
+{
+    let trace = trace_of(state);
+    showing(trace.lookup(room, tick))
+}
+
+// Four numbers a bucket, as in the room.
+#[no_mangle]
+pub extern "C" fn ndz_row(state: Fields, room: &[i64], out: &mut [i64]) -> Counted
+    ensures { λ r. ⌜ (r, now (out .exit)) ≡ told (numbersOutcome (stateOf state) (now (room .entry)) (now (out .entry))) ⌝ }
+{
+    let trace = trace_of(state);
+    telling(row::numbers(trace, room, &mut *out))
+}
+
+#[no_mangle]
+pub extern "C" fn ndz_save(state: Fields, room: &[i64], out: &mut [u8]) -> Counted
+    ensures { λ r. ⌜ (r, now (out .exit)) ≡ told (saveOutcome (stateOf state) (now (room .entry)) (now (out .entry))) ⌝ }
+{
+    let trace = trace_of(state);
+    telling(trace.save(room, &mut *out))
+}
+
+#[no_mangle]
+pub extern "C" fn ndz_load(
+    kind: usize,
+    steps: usize,
+    gaps: usize,
+    file: &[u8],
+    room: &mut [i64],
+) -> Reply
+    ensures { λ r. ⌜ (r, now (room .exit)) ≡ replied none (answered (loaded (settingsOf kind steps gaps) (now (file .entry)) (now (room .entry)))) ⌝ }
+{
+    let named = settings_of(kind, steps, gaps);
+    replying(none(), Trace::load(named, file, &mut *room))
+}

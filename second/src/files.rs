@@ -9,8 +9,9 @@
 //! 2,147,483,646 and 2,147,483,647; where the record has one tick its largest is its least.
 //!
 //! The shapes: in order with B of 1, 2 and 3, each with 0 to 2B records; late with the same B and K of 1, 2 and 3, each with 0 to 2B + K
-//! records; these are small. Then in order B 32 with 63 and 64 records, late B 32 and K 256 with 100, 319 and 320, in order B 256 with 511 and
-//! 512, late B 256 and K 256 with 767 and 768. K is 3 where the trace is in order, which takes no notice of it.
+//! records. In order B 16 with 0 to 32 records, late B 16 and K 16 with 0 to 48. Then in order B 32 with 63 and 64 records, late B 32 and
+//! K 256 with 100, 319 and 320, in order B 256 with 511 and 512, late B 256 and K 256 with 767 and 768. K is 3 where the trace is in order,
+//! which takes no notice of it.
 //!
 //! | Fault | Places | At a place |
 //! |---|---|---|
@@ -28,7 +29,7 @@
 //! | a run more | 1 | before the first stands a record of tick 0 alone, its reading 4 |
 //! | a record more | each record of more than one tick | it is two: its first tick, of the least reading, and the others, least and largest kept but where they are one tick |
 //!
-//! A small file gets the fault at every place; any other file at each place whose number divides by 1,009 where a bit is flipped, by 61 otherwise,
+//! A file of at most nine records gets the fault at every place; any other file at each place whose number divides by 1,009 where a bit is flipped, by 61 otherwise,
 //! and all 15 cuts.
 //!
 //! The settings are the shape's kind, B and K, and the room holds the numbers that a trace of the settings' kind with the shape's B and K
@@ -64,7 +65,6 @@ pub struct Shape {
     pub steps: u64,
     pub gaps: u64,
     pub records: usize,
-    small: bool,
 }
 
 #[derive(Clone, Copy, Debug, PartialEq, Eq)]
@@ -111,6 +111,8 @@ const VALUES: [(i32, i32); 5] = [
 pub const OLD_NUMBERS: [i64; 5] = [1001, -1002, 1003, i64::MIN, i64::MAX];
 const OLD_BYTE: u8 = 165;
 const SETTINGS: usize = 13;
+/// A file of at most so many records gets its fault at every place.
+const SMALL: usize = 9;
 
 /// One load, with what it was given and what it left.
 pub struct Load<'a> {
@@ -123,26 +125,31 @@ pub struct Load<'a> {
 
 pub fn shapes() -> Vec<Shape> {
     let mut shapes = Vec::new();
-    let mut add = |kind, steps, gaps, records, small| {
+    let mut add = |kind, steps, gaps, records| {
         shapes.push(Shape {
             kind,
             steps,
             gaps,
             records,
-            small,
         });
     };
     for steps in 1..=3 {
         for records in 0..=2 * steps {
-            add(Kind::InOrder, steps, 3, records as usize, true);
+            add(Kind::InOrder, steps, 3, records as usize);
         }
     }
     for steps in 1..=3 {
         for gaps in 1..=3 {
             for records in 0..=2 * steps + gaps {
-                add(Kind::Late, steps, gaps, records as usize, true);
+                add(Kind::Late, steps, gaps, records as usize);
             }
         }
+    }
+    for records in 0..=32 {
+        add(Kind::InOrder, 16, 3, records);
+    }
+    for records in 0..=48 {
+        add(Kind::Late, 16, 16, records);
     }
     for (kind, steps, gaps, sizes) in [
         (Kind::InOrder, 32, 3, &[63, 64][..]),
@@ -151,7 +158,7 @@ pub fn shapes() -> Vec<Shape> {
         (Kind::Late, 256, 256, &[767, 768]),
     ] {
         for &records in sizes {
-            add(kind, steps, gaps, records, false);
+            add(kind, steps, gaps, records);
         }
     }
     shapes
@@ -180,7 +187,7 @@ pub fn each_load(shape: &Shape, fault: Fault, mut told: impl FnMut(&Load)) {
         _ => SETTINGS,
     };
     let apart = match fault {
-        _ if shape.small => 1,
+        _ if shape.records <= SMALL => 1,
         Fault::Flipped => 1_009,
         Fault::Cut => 1,
         _ => 61,

@@ -129,6 +129,8 @@ fn main() {
     sizes(Kind::Late, 3, 1, 7);
     sizes(Kind::Late, 3, 2, 8);
     sizes(Kind::Late, 3, 3, 9);
+    sizes(Kind::InOrder, 16, 3, 32);
+    sizes(Kind::Late, 16, 16, 48);
     group(Kind::InOrder, 32, 3, 63);
     group(Kind::InOrder, 32, 3, 64);
     group(Kind::Late, 32, 256, 100);

@@ -114,13 +114,13 @@ static void answered(int opcode, ndz_answer answer)
     if (answer.refusal == 0) {
         state = answer.state;
         text("accepted ");
-        decimal(state.kind);
-        decimal(state.steps);
-        decimal(state.gaps);
-        decimal(state.used);
-        decimal(state.runs);
-        decimal(state.readings);
     }
+    decimal(answer.state.kind);
+    decimal(answer.state.steps);
+    decimal(answer.state.gaps);
+    decimal(answer.state.used);
+    decimal(answer.state.runs);
+    decimal(answer.state.readings);
     numbers(room, lent_numbers());
     end();
 }

@@ -40,6 +40,8 @@
 //!   first number to the last it is the sum so far times 31 plus the number's bits, modulo 2^64, from 0.
 //! - Whole: every lent number of the room and of the row by its bits in hex without leading zeros, one space apart, and every lent byte
 //!   of the file by two hex digits, nothing apart. Of no numbers or bytes nothing is written, and the space before them stays.
+//!   After a refusal's place stands the state that the answer hands back: of a reading FACTS, of an open or a load, which was given none, six
+//!   times `0 `.
 //!
 //! Print writes in both forms `7 FACTS `, each lent number of the room so in hex and a space after it, and the room's checksum.
 

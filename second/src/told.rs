@@ -1,7 +1,8 @@
 //! The lines that obeyed commands write, in the two forms that their table describes.
 
-use crate::commands::{Answer, Command, Session, COMMAND_BYTES, PRINT, ROW, SAVE};
+use crate::commands::{Answer, Command, Session, COMMAND_BYTES};
 use crate::commands::{GAPS, KIND, READINGS, RUNS, STEPS, USED};
+use crate::commands::{LATE, LOAD, NEXT, OPEN, PRINT, ROW, SAVE};
 use std::io::{self, BufReader, ErrorKind, Read, Write};
 
 /// So much text is gathered before it is written.
@@ -69,6 +70,11 @@ fn line(form: Form, session: &Session, command: &Command, answer: &Answer, text:
         Answer::Refused(refusal) => {
             text.extend(b"refused ");
             numbers(text, [u64::from(refusal.number), refusal.place]);
+            match command.opcode {
+                NEXT | LATE if form == Form::Whole => facts(text, session),
+                OPEN | LOAD if form == Form::Whole => numbers(text, [0; 6]),
+                _ => {}
+            }
         }
         Answer::Printed => {
             facts(text, session);

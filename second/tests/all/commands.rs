@@ -181,13 +181,13 @@ fn files_are_loaded_poked_and_copied() {
     assert_eq!(
         told_after(Form::Whole, &saved, &commands),
         [
-            format!("14 refused 3 0 {H2_ROOM}"),
-            format!("14 refused 7 0 {H2_ROOM}"),
+            format!("14 refused 3 0 0 0 0 0 0 0 {H2_ROOM}"),
+            format!("14 refused 7 0 0 0 0 0 0 0 {H2_ROOM}"),
             format!("14 accepted 0 1 0 2 1 4 {H2_ROOM}"),
-            format!("14 refused 8 1 {H2_ROOM}"),
-            format!("14 refused 8 1 {H2_ROOM}"),
+            format!("14 refused 8 1 0 0 0 0 0 0 {H2_ROOM}"),
+            format!("14 refused 8 1 0 0 0 0 0 0 {H2_ROOM}"),
             format!("14 accepted 0 2 0 1 1 3 {twelve}"),
-            format!("14 refused 8 1 {twelve}"),
+            format!("14 refused 8 1 0 0 0 0 0 0 {twelve}"),
         ]
     );
 }
@@ -213,9 +213,9 @@ fn a_refused_call_leaves_the_kinds_number() {
     assert_eq!(
         told_after(Form::Whole, &[], &commands),
         [
-            "1 refused 3 0 0 0".to_string(),
+            "1 refused 3 0 0 0 0 0 0 0 0 0".to_string(),
             format!("1 accepted 1 1 1 0 0 0 {empty}"),
-            format!("2 refused 5 0 {empty}"),
+            format!("2 refused 5 0 7 1 1 0 0 0 {empty}"),
             format!("7 7 1 1 0 0 0 {empty} {before}"),
             format!("3 accepted 1 1 1 1 1 1 {one}"),
             format!("7 1 1 1 1 1 1 {one} {after}"),

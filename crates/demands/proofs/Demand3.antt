@@ -12,7 +12,7 @@ use Rattle.rule.specs.declared.Bucket.{Bucket}
 use Rattle.rule.specs.declared.Kind.{Kind}
 use Rattle.rule.specs.declared.Kind.the-variants.{InOrder, Late}
 use Rattle.rule.specs.Bucket.{distance, end, error, spread, union}
-use Rattle.rule.specs.Table.{Table, Ordered, holders, insert, limitOver, runs, single, worst}
+use Rattle.rule.specs.Table.{Table, Ordered, holders, insert, limitOver, readings, runs, single, worst}
 use Rattle.rule.proofs.Whole.{distance-is, whole}
 use Rattle.rule.proofs.Errors.{error-within, near-both, within-level}
 use Rattle.rule.proofs.Tables.{held-by, held-once, held-within, insert-length, insert-member, merged-length, merged-member, union-end}
@@ -93,9 +93,9 @@ settled-size (rests h) = h
 settled-size (merges h m s) = settled-size s
 
 pub held-kept : {kind : Kind} {base : ℕ} {rs : List Reading} {t : Table} {m : ℕ} → Held kind base rs t m → Kept kind rs t
-unfolding Joined Ordered holders times runs beginning
+unfolding Joined Ordered holders readings times runs beginning
 held-kept {kind} opened =
-    record { ordered = tt; covers = λ tick. refl; extremes = λ b m. absurd (List·Memᴰ·not-nil m); true-runs = refl; joined = none kind }
+    record { ordered = tt; covers = λ tick. refl; each = refl; extremes = λ b m. absurd (List·Memᴰ·not-nil m); true-runs = refl; joined = none kind }
   where
     none : (kind : Kind) → Joined kind 0
     none InOrder = omega arith
@@ -143,6 +143,7 @@ served kind base rs t m positive h =
           (shown E kept narrow, worst-within E t (λ b k. error-within b (least-largest rs b (kept .extremes b k)) E (narrow b k)));
       covers = λ tick.
           kept .covers tick ∙ times-arrived tick rs (omega (arith, kept .covers tick, held-once 0 tick t (kept .ordered)));
+      each = kept .each;
       ordered = kept .ordered;
       extremes = kept .extremes;
       size = held-size h;

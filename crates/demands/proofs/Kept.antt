@@ -8,15 +8,16 @@ use native.Mathlib.Omega.{arith}
 use borrow.Author.Tests.{eqb-true, eqb-false}
 use lib.Dec.{eqb}
 use lib.IntN.{ℤ}
+use lib.ListN.{length}
 use lib.Signed.{leZ}
 use Rattle.rule.specs.declared.Bucket.{Bucket}
 use Rattle.rule.specs.declared.Kind.{Kind}
 use Rattle.rule.specs.declared.Kind.the-variants.{InOrder, Late}
 use Rattle.rule.specs.Bucket.{neighbours, union}
-use Rattle.rule.specs.Table.{Table, Ordered, holders, holds, insert, runs, single}
+use Rattle.rule.specs.Table.{Table, Ordered, holders, holds, insert, readings, runs, single}
 use Rattle.rule.proofs.Whole.{by-test, whole}
 use Rattle.rule.proofs.Errors.{larger-is, larger-left, larger-right, leZ-refl, lesser-is, lesser-left, lesser-right}
-use Rattle.rule.proofs.Tables.{counted, eqb-counts, heldBefore, held-member, held-once, holds-counts, insert-holders, insert-member, insert-ordered, insert-runs, leb-counts, merged-holders, merged-member, merged-ordered, merged-runs, next-free, next-touches, one, union-holds}
+use Rattle.rule.proofs.Tables.{counted, eqb-counts, heldBefore, held-member, held-once, holds-counts, insert-holders, insert-member, insert-ordered, insert-readings, insert-runs, leb-counts, merged-holders, merged-member, merged-ordered, merged-readings, merged-runs, next-free, next-touches, one, union-holds}
 use Rattle.demands.specs.History.{Merge, Reading, Takes, runsOf}
 use Rattle.demands.specs.Served.{Extremes, Inside}
 use Rattle.demands.proofs.Coverage.{runs-with, times, times-member}
@@ -29,6 +30,7 @@ Joined Late runs = Unit {0}
 pub record Kept (kind : Kind) (rs : List Reading) (t : Table) : Type 0 where
   pub ordered : Ordered 0 t
   pub covers : (tick : ℕ) → holders tick t ≡ times tick rs
+  pub each : readings t ≡ length rs
   pub extremes : (b : Bucket) → List·Memᴰ b t → Extremes rs b
   pub true-runs : runs t ≡ runsOf rs
   pub joined : Joined kind (runs t)
@@ -70,6 +72,7 @@ merged-kept {kind} {rs} l a b r touching k =
     record {
       ordered = merged-ordered a b touching 0 l r (k .ordered);
       covers = λ tick. merged-holders a b touching tick l r ∙ k .covers tick;
+      each = merged-readings a b touching l r ∙ k .each;
       extremes = λ x m.
           ⊎-elim (λ e. subst (Extremes rs) (sym e) (kept-extremes l a b r touching k)) (k .extremes x) (merged-member a b touching x l r m);
       true-runs = merged-runs a b touching l r ∙ k .true-runs;
@@ -153,6 +156,7 @@ module _ (kind : Kind) (rs : List Reading) (t : Table) (kept : Kept kind rs t) (
       record {
         ordered = insert-ordered (r .tick) (r .value) 0 t (kept .ordered) (omega arith) free;
         covers = λ tick. omega (arith, insert-holders tick (single (r .tick) (r .value)) t, single-holds tick (r .tick) (r .value), kept .covers tick);
+        each = omega (arith, insert-readings (single (r .tick) (r .value)) t, kept .each);
         extremes = λ b m. ⊎-elim (λ e. subst (Extremes (r ∷ rs)) (sym e) new-extremes) (older-extremes b) (insert-member b (single (r .tick) (r .value)) t m);
         true-runs =
             omega (arith, insert-runs (r .tick) (r .value) t (kept .ordered) free, runs-with r rs fresh t (kept .covers) (λ tick. held-once 0 tick t (kept .ordered)), kept .true-runs);

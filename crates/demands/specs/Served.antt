@@ -10,7 +10,7 @@ use lib.Signed.{leZ}
 use Rattle.rule.specs.declared.Bucket.{Bucket}
 use Rattle.rule.specs.declared.Kind.{Kind}
 use Rattle.rule.specs.Bucket.{distance, level}
-use Rattle.rule.specs.Table.{Table, Ordered, holders, holding, holds, limitOver, runs, worst}
+use Rattle.rule.specs.Table.{Table, Ordered, holders, holding, holds, limitOver, readings, runs, worst}
 use Rattle.demands.specs.Curve.{Curve, steps, value}
 use Rattle.demands.specs.History.{Reading, arrived, runsOf}
 
@@ -40,6 +40,8 @@ pub record Served (kind : Kind) (base : ℕ) (rs : List Reading) (t : Table) (me
   pub picture : (c : Curve) (E : ℕ) → steps c ≤ (base + 1) / 2 → Near E c rs → Shown E t rs × (worst t ≤ E)
   -- exactly the ticks of the accepted readings, each once
   pub covers : (tick : ℕ) → holders tick t ≡ cond (arrived tick rs) 1 0
+  -- the counts of the buckets together are the number of accepted readings
+  pub each : readings t ≡ length rs
   pub ordered : Ordered 0 t
   pub extremes : (b : Bucket) → List·Memᴰ b t → Extremes rs b
   pub size : length t ≤ limitOver kind base (runs t)

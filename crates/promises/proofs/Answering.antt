@@ -1,6 +1,6 @@
 -- Demand 1: the chain of refusals of each call gives the first row that is due, and a refusal leaves what was lent.
-use Prim.Native.Nat.{ℕ, zero, suc, _+_, _*_, _%_, _≤_, min}
-use mathlib.Core.Path.{_≡_, refl, sym, ap}
+use Prim.Native.Nat.{ℕ, zero, suc, _+_, _*_, _/_, _%_, _≤_, _<_, min}
+use mathlib.Core.Path.{_≡_, refl, sym, ap, subst, _∙_}
 use mathlib.Core.Bool.{Bool, true, false, false≢true, not, _&&_}
 use mathlib.Core.List.{List, [], _∷_, _++_}
 use mathlib.Core.Option.{Option, some, none}
@@ -18,12 +18,14 @@ use Rattle.rule.specs.declared.State.{State}
 use Rattle.rule.specs.declared.Tally.{Tally}
 use Rattle.rule.specs.Answers.{number, place}
 use Rattle.rule.specs.Bytes.{recordsOf, saved}
-use Rattle.rule.specs.Calls.{Verdict, accepted, admitted, counted, found, foundOf, gapsKept, grown, isHeld, kept, late, lateVerdict, loadVerdict, lookupOutcome, nextVerdict, refuse, refuseFault, refused, traced, writeVerdict, wrote}
+use Rattle.rule.specs.Calls.{Verdict, accepted, admitted, counted, found, foundOf, gapsKept, grown, isHeld, kept, late, lateVerdict, loaded, loadVerdict, lookupOutcome, nextVerdict, refuse, refuseFault, refused, traced, writeVerdict, wrote}
 use Rattle.rule.specs.Numbers.{most, recordWidth, slotWidth, tallyMost, ticks}
-use Rattle.rule.specs.Room.{gapsBounded, gapsGood, roomy, runsAllowed, sound, stepsGood, tableOf}
+use Rattle.rule.specs.Files.{Finds, FirstBroken, meets}
+use Rattle.rule.specs.Room.{flat, gapsBounded, gapsGood, roomy, runsAllowed, sound, stepsGood, tableOf}
 use Rattle.rule.specs.Rules.{Fault, fault, firstFault, isWhole, ruled, whole}
 use Rattle.rule.specs.Table.{Table, accept, holding, insert, limit, limitOver, needed, nextTick, runs, single}
 use Rattle.rule.proofs.Merging.{settle-runs}
+use Rattle.rule.proofs.Ruling.{first-is-first}
 use Rattle.rule.proofs.Whole.{by-test}
 use Rattle.promises.specs.Answered.{Answered, Demand1, Row, fileRows, firstOf, indexOf, lateRows, lookupRows, nextRows, openRows, outside, row, said, saidFound, saidWritten, writeRows}
 
@@ -85,6 +87,9 @@ accepted-runs s t tick v e = sym (settle-runs s (insert (single tick v) t) (enou
 none-given : (r : ℕ × ℕ) → none ≡ some r → ⊥
 none-given r e = let z : _≡_ {A = ℕ} 0 1 = cc in omega arith
 
+given : (r q : ℕ × ℕ) → some r ≡ some q → r ≡ q
+given r q e = cc
+
 module _ (g : Settings) (l : List ℤ) where
   answered : (v : Verdict Table) (rows : List Row) → said v ≡ firstOf rows → let o = traced g l v in Answered (said (o .0)) rows l (o .1)
   unfolding said traced
@@ -133,6 +138,49 @@ unfolding said counted grown
 told t used (refused q) r e = refl
 told t used (accepted s) r e = absurd (none-given r e)
 
+-- ---- load, and 8's place
+
+loading : (g : Settings) (file : List ℕ) (l : List ℤ) → said (loadVerdict (kept g) file l) ≡ firstOf (openRows g l ++ fileRows g file)
+unfolding loadVerdict ruled
+loading g file l =
+    admits g l _ _
+    (link (not (eqb (length file % recordWidth) 0)) _ Refusal.Length _ _ refl (λ a.
+    fault-link (firstFault (g .kind) 0 0 (recordsOf file)) _ _
+    (link (not (runsAllowed (g .kind) (gapsKept (g .kind) (g .gaps)) (runs (recordsOf file)))) _ Refusal.Runs _ _ (runs-due (g .kind) (g .gaps) (runs (recordsOf file))) (λ b.
+    link (ltb (limit (kept g) (runs (recordsOf file))) (length (recordsOf file))) _ Refusal.Overfull _ _ refl (λ c. nothing _)))))
+
+-- a row of another number is not the one given
+other : (n : ℕ) (c : Bool) (rows : List Row) (i : ℕ) → (n ≡ 8 → ⊥) → firstOf (row n c ∷ rows) ≡ some (8, i) → firstOf rows ≡ some (8, i)
+unfolding firstOf
+other n true rows i differs e = absurd (differs (ap (λ (r : ℕ × ℕ). r .0) (given (n, 0) (8, i) e)))
+other n false rows i differs e = e
+
+first-of : (k : Kind) (file : List ℕ) (f : Fault) (rows : List Row) (i : ℕ) → (firstOf rows ≡ some (8, i) → ⊥) → Finds k file f
+    → firstOf (record { number = 8; place = indexOf f; due = not (isWhole f) } ∷ rows) ≡ some (8, i) → FirstBroken k file i
+unfolding firstOf indexOf isWhole Finds
+first-of k file whole rows i later h e = absurd (later e)
+first-of k file (fault j r) rows i later h e = subst (FirstBroken k file) (ap (λ (r : ℕ × ℕ). r .1) (given (8, j) (8, i) e)) h
+
+all-meet : (k : Kind) (file : List ℕ) (f : Fault) → isWhole f ≡ true → Finds k file f → (i : ℕ) → i < length file / recordWidth → meets k file i ≡ true
+unfolding isWhole Finds
+all-meet k file whole e h = h
+all-meet k file (fault j r) e h = absurd (false≢true e)
+
+no-row : (r : ℕ × ℕ) → firstOf [] ≡ some r → ⊥
+unfolding firstOf
+no-row r e = none-given r e
+
+eighth : (g : Settings) (file : List ℕ) (l : List ℤ) (i : ℕ) → firstOf (openRows g l ++ fileRows g file) ≡ some (8, i) → FirstBroken (g .kind) file i
+unfolding ruled
+eighth g file l i e =
+    first-of (g .kind) file (firstFault (g .kind) 0 0 (recordsOf file)) _ i
+    (λ f. no-row (8, i) (other 10 _ [] i (λ n. omega arith) (other 9 _ _ i (λ n. omega arith) f)))
+    (first-is-first (g .kind) file)
+    (other 7 _ _ i (λ n. omega arith) (other 3 _ _ i (λ n. omega arith) (other 2 _ _ i (λ n. omega arith) (other 1 _ _ i (λ n. omega arith) e))))
+
+loaded-said : (g : Settings) (file : List ℕ) (l : List ℤ) → said (loaded g file l .0) ≡ firstOf (openRows g l ++ fileRows g file)
+loaded-said g file l = answered (kept g) l (loadVerdict (kept g) file l) (openRows g l ++ fileRows g file) (loading g file l) .exactly
+
 pub demand1 : Demand1
 unfolding nextVerdict lateVerdict lookupOutcome writeVerdict loadVerdict ruled
 demand1 = record {
@@ -151,11 +199,10 @@ demand1 = record {
   lookups = λ s l tick. looked s l tick;
   rows = λ s l out. written (λ t. t) out (writeVerdict s l (s .used) (length out)) (writeRows s l (length out) (s .used)) (writes s l (length out) (s .used));
   saves = λ s l out. written saved out (writeVerdict s l (recordWidth * s .used) (length out)) (writeRows s l (length out) (recordWidth * s .used)) (writes s l (length out) (recordWidth * s .used));
+  numbers = λ s l out. written flat out (writeVerdict s l (slotWidth * s .used) (length out)) (writeRows s l (length out) (slotWidth * s .used)) (writes s l (length out) (slotWidth * s .used));
   loads = λ g file l. answered (kept g) l (loadVerdict (kept g) file l) (openRows g l ++ fileRows g file)
-      (admits g l _ _
-      (link (not (eqb (length file % recordWidth) 0)) _ Refusal.Length _ _ refl (λ a.
-      fault-link (firstFault (g .kind) 0 0 (recordsOf file)) _ _
-      (link (not (runsAllowed (g .kind) (gapsKept (g .kind) (g .gaps)) (runs (recordsOf file)))) _ Refusal.Runs _ _ (runs-due (g .kind) (g .gaps) (runs (recordsOf file))) (λ b.
-      link (ltb (limit (kept g) (runs (recordsOf file))) (length (recordsOf file))) _ Refusal.Overfull _ _ refl (λ c. nothing _))))));
+      (loading g file l);
+  places = λ g file l i e. eighth g file l i (sym (loaded-said g file l) ∙ e);
+  breaks = λ k file i inside broken. by-test (isWhole (firstFault k 0 0 (recordsOf file))) (λ h. absurd (false≢true (sym broken ∙ all-meet k file (firstFault k 0 0 (recordsOf file)) h (first-is-first k file) i inside))) (λ h. h);
   tally = told;
 }

@@ -5,9 +5,9 @@ use mathlib.Core.Bool.{Bool, true, false, cond, true≢false, false≢true}
 use mathlib.Core.List.{List, [], _∷_, List·Memᴰ}
 use mathlib.Core.Option.{Option, some}
 use native.Mathlib.Omega.{arith}
-use borrow.Author.Tests.{lt-leb}
+use borrow.Author.Tests.{eqb-true, lt-leb}
 use lib.IntN.{ℤ}
-use lib.ListN.{length}
+use lib.ListN.{length, take}
 use Rattle.rule.specs.declared.Bucket.{Bucket}
 use Rattle.rule.specs.declared.Kind.{Kind}
 use Rattle.rule.specs.declared.Kind.the-variants.{InOrder, Late}
@@ -15,10 +15,12 @@ use Rattle.rule.specs.declared.Settings.{Settings}
 use Rattle.rule.specs.declared.State.{State}
 use Rattle.rule.specs.declared.Found.{Found}
 use Rattle.rule.specs.Bucket.{end, error, level}
-use Rattle.rule.specs.Calls.{Verdict, accepted, foundOf, found, isHeld, kept, late, lateOutcome, lateVerdict, lookupOutcome, nextOutcome, nextVerdict, opened, admitted, refuse, stateOf, traced}
-use Rattle.rule.specs.Numbers.{ticks}
+use Rattle.rule.specs.Bytes.{saved}
+use Rattle.rule.specs.Calls.{Verdict, accepted, foundOf, found, gapsKept, isHeld, kept, late, lateOutcome, lateVerdict, loaded, loadVerdict, lookupOutcome, nextOutcome, nextVerdict, opened, admitted, refuse, stateOf, traced}
+use Rattle.rule.specs.Numbers.{recordWidth, ticks}
 use Rattle.rule.specs.Room.{laid, signed, slots, sound, tableOf}
-use Rattle.rule.specs.Table.{Table, accept, holders, holding, holds, limit, needed, nextTick, runs}
+use Rattle.rule.specs.Table.{Table, accept, holders, holding, holds, lastEnd, limit, needed, nextTick, readings, runs}
+use Rattle.rule.specs.Rules.{follows}
 use Rattle.rule.proofs.Ruling.{Ruled}
 use Rattle.rule.proofs.Tables.{held-within, one}
 use Rattle.rule.proofs.Whole.{by-test}
@@ -32,13 +34,14 @@ use Rattle.trace.proofs.Leaving.{late-leaves, next-leaves, open-leaves}
 use Rattle.demands.specs.History.{Accepted, Reading, Takes, arrived, runsOf, tableAfter}
 use Rattle.demands.specs.Served.{Near, Served, Shown}
 use Rattle.demands.proofs.Instance.{demand3}
-use Rattle.promises.specs.Reached.{Reached, late-refused, lates, loads, next-refused, nexts, opens}
+use Rattle.promises.specs.Reached.{Reached, late-refused, lates, load-refused, loads, next-refused, nexts, open-refused, opens}
 use Rattle.promises.specs.Demands.{Kept, Seen}
-use Rattle.promises.proofs.Outcomes.{late-taken, next-taken, open-taken, traced-accepted, traced-refused}
+use Rattle.promises.proofs.Outcomes.{bytes-written, late-taken, next-taken, open-taken, traced-accepted, traced-refused}
 
 -- ---- along the way
 
-record Known (rs : List Reading) (s : State) (l : List ℤ) : Type 0 where
+record Known (g : Settings) (rs : List Reading) (s : State) (l : List ℤ) : Type 0 where
+  named : s .settings ≡ kept g
   fit : sound s l ≡ true
   buckets : tableOf s l ≡ tableAfter (s .settings) rs
   taken : Accepted (s .settings) rs
@@ -56,20 +59,34 @@ same-slots s l room =
 laid-table : (g : Settings) (t : Table) (l : List ℤ) → tableOf (stateOf g t) (laid (needed g) t l) ≡ t
 laid-table g t l = slots-laid (needed g) t l
 
-module _ {rs : List Reading} {s : State} {l : List ℤ} (k : Known rs s l) (r : Reading) (t : State) (m : List ℤ) where
+-- ---- saved, and loaded with the settings named
+
+twice : (k : Kind) (gaps : ℕ) → gapsKept k (gapsKept k gaps) ≡ gapsKept k gaps
+unfolding gapsKept
+twice InOrder gaps = refl
+twice Late gaps = refl
+
+kept-twice : (g : Settings) → kept (kept g) ≡ kept g
+kept-twice g = λ i. record { kind = g .kind; steps = g .steps; gaps = twice (g .kind) (g .gaps) i }
+
+loaded-kept : (g h : Settings) (file : List ℕ) (room : List ℤ) → kept h ≡ kept g → loaded h file room ≡ loaded g file room
+loaded-kept g h file room e = ap (λ (k : Settings). traced k room (loadVerdict k file room)) e
+
+module _ {g : Settings} {rs : List Reading} {s : State} {l : List ℤ} (k : Known g rs s l) (r : Reading) (t : State) (m : List ℤ) where
   step : Takes (s .settings .kind) (tableOf s l) (r .tick) → t ≡ stateOf (s .settings) (accept (s .settings) (tableOf s l) (r .tick) (r .value))
-      → m ≡ laid (needed (s .settings)) (accept (s .settings) (tableOf s l) (r .tick) (r .value)) l → sound t m ≡ true → Known (r ∷ rs) t m
+      → m ≡ laid (needed (s .settings)) (accept (s .settings) (tableOf s l) (r .tick) (r .value)) l → sound t m ≡ true → Known g (r ∷ rs) t m
   unfolding tableAfter Accepted
   step takes state room fit =
-      let g : Settings = s .settings in
-      let same : t .settings ≡ g = ap (λ (x : State). x .settings) state in
-      let w : Table = accept g (tableOf s l) (r .tick) (r .value) in
-      let read : tableOf t m ≡ w = ap (λ (x : State). tableOf x m) state ∙ ap (λ (x : List ℤ). tableOf (stateOf g w) x) room ∙ laid-table g w l in
-      let by-rule : w ≡ accept g (tableAfter g rs) (r .tick) (r .value) = ap (λ (u : Table). accept g u (r .tick) (r .value)) (k .buckets) in
+      let h : Settings = s .settings in
+      let same : t .settings ≡ h = ap (λ (x : State). x .settings) state in
+      let w : Table = accept h (tableOf s l) (r .tick) (r .value) in
+      let read : tableOf t m ≡ w = ap (λ (x : State). tableOf x m) state ∙ ap (λ (x : List ℤ). tableOf (stateOf h w) x) room ∙ laid-table h w l in
+      let by-rule : w ≡ accept h (tableAfter h rs) (r .tick) (r .value) = ap (λ (u : Table). accept h u (r .tick) (r .value)) (k .buckets) in
       record {
+        named = same ∙ k .named;
         fit = fit;
         buckets = read ∙ by-rule ∙ ap (λ (x : Settings). accept x (tableAfter x rs) (r .tick) (r .value)) (sym same);
-        taken = subst (λ (x : Settings). Takes (x .kind) (tableAfter x rs) (r .tick) × Accepted x rs) (sym same) (subst (λ (u : Table). Takes (g .kind) u (r .tick)) (k .buckets) takes, k .taken);
+        taken = subst (λ (x : Settings). Takes (x .kind) (tableAfter x rs) (r .tick) × Accepted x rs) (sym same) (subst (λ (u : Table). Takes (h .kind) u (r .tick)) (k .buckets) takes, k .taken);
       }
 
 next-takes : (k : Kind) (t : Table) → late k ≡ false → Takes k t (nextTick t)
@@ -82,11 +99,11 @@ unfolding late Takes
 late-takes InOrder t tick e h = absurd (false≢true e)
 late-takes Late t tick e h = h
 
-known : {rs : List Reading} {s : State} {l : List ℤ} → Reached rs s l → Known rs s l
+known : {g : Settings} {rs : List Reading} {s : State} {l : List ℤ} → Reached g rs s l → Known g rs s l
 unfolding tableAfter Accepted slots
-known (opens g l {m = m} {s = s} e) =
+known {g} (opens l {m = m} {s = s} e) =
     let o = traced-accepted (kept g) l (admitted (kept g) l (accepted [])) s m e in
-    record { fit = left-sound e (open-leaves g l); buckets = ap (λ (x : State). tableOf x m) (o .state ∙ ap (stateOf (kept g)) (open-taken (kept g) l [] (o .table) (o .verdict))); taken = tt }
+    record { named = ap (λ (x : State). x .settings) (o .state); fit = left-sound e (open-leaves g l); buckets = ap (λ (x : State). tableOf x m) (o .state ∙ ap (stateOf (kept g)) (open-taken (kept g) l [] (o .table) (o .verdict))); taken = tt }
 known (nexts {rs = rs} {s = s} {t = t} {l = l} {m = m} v range r e) =
     let o = traced-accepted (s .settings) l (nextVerdict s l v) t m e in
     let n = next-taken s l v (o .table) (o .verdict) in
@@ -98,13 +115,17 @@ known (lates {rs = rs} {s = s} {t = t} {l = l} {m = m} tick v range r e) =
     let free = held-counts 0 tick (tableOf s l) (sound-ordered s l (sound-facts s l (n .fit))) ∙ ap one (n .free) in
     step (known r) (record { tick = tick; value = v }) t m (late-takes (s .settings .kind) (tableOf s l) tick (n .kind) free)
     (o .state ∙ ap (stateOf (s .settings)) (n .table)) (o .room ∙ ap (λ (x : Table). laid (needed (s .settings)) x l) (n .table)) (left-sound e (late-leaves s l tick v (signed-fits v range)))
-known (next-refused {rs = rs} {s = s} {l = l} {m = m} {r = q} v r e) = subst (Known rs s) (sym (traced-refused (s .settings) l (nextVerdict s l v) q m e)) (known r)
-known (late-refused {rs = rs} {s = s} {l = l} {m = m} {r = q} tick v r e) = subst (Known rs s) (sym (traced-refused (s .settings) l (lateVerdict s l tick v) q m e)) (known r)
-known (loads {rs = rs} {s = s} {t = t} {l = l} {m = m} room r e) =
+known {g} (next-refused {rs = rs} {s = s} {l = l} {m = m} {r = q} v r e) = subst (Known g rs s) (sym (traced-refused (s .settings) l (nextVerdict s l v) q m e)) (known r)
+known {g} (late-refused {rs = rs} {s = s} {l = l} {m = m} {r = q} tick v r e) = subst (Known g rs s) (sym (traced-refused (s .settings) l (lateVerdict s l tick v) q m e)) (known r)
+known {g} (open-refused {rs = rs} {s = s} {l = l} {m = m} {r = q} h r e) = subst (Known g rs s) (sym (traced-refused (kept h) l (admitted (kept h) l (accepted [])) q m e)) (known r)
+known {g} (load-refused {rs = rs} {s = s} {l = l} {m = m} {r = q} h file r e) = subst (Known g rs s) (sym (traced-refused (kept h) l (loadVerdict (kept h) file l) q m e)) (known r)
+known {g} (loads {rs = rs} {s = s} {t = t} {l = l} {m = m} {written = written} {n = n} out room h same r saves e) =
     let k = known r in
-    let w = saved-accepted s l room t m (k .fit) e in
+    let file : take (recordWidth * n) written ≡ saved (tableOf s l) = bytes-written s l out n written saves in
+    let again : loaded (s .settings) (saved (tableOf s l)) room ≡ (accepted t, m) = loaded-kept h (s .settings) (saved (tableOf s l)) room (ap kept (k .named) ∙ kept-twice g ∙ sym same) ∙ ap (λ (f : List ℕ). loaded h f room) (sym file) ∙ e in
+    let w = saved-accepted s l room t m (k .fit) again in
     let read : tableOf s m ≡ tableOf s l = ap (λ (x : List ℤ). tableOf s x) (w .1) ∙ same-slots s l room in
-    subst (λ (x : State). Known rs x m) (sym (w .0)) (record { fit = w .2; buckets = read ∙ k .buckets; taken = k .taken })
+    subst (λ (x : State). Known g rs x m) (sym (w .0)) (record { named = k .named; fit = w .2; buckets = read ∙ k .buckets; taken = k .taken })
 
 -- ---- the picture, as lookup shows it
 
@@ -120,26 +141,39 @@ shows : (s : State) (l : List ℤ) (tick : ℕ) (b : Bucket) → sound s l ≡ t
 unfolding lookupOutcome foundOf refuse found
 shows s l tick b fit small h = rw (fit, lt-leb ticks tick small, h)
 
-pub keeps : {rs : List Reading} {s : State} {l : List ℤ} → Reached rs s l → Kept rs s l
+-- in order each bucket starts where the one before it ends, so the end is that of the counts
+follows-on : (k : Kind) (e : ℕ) (t : Table) → late k ≡ false → Ruled k e t → lastEnd e t ≡ e + readings t
+unfolding late Ruled follows lastEnd readings
+follows-on Late e t h r = absurd (true≢false h)
+follows-on InOrder e [] h r = omega arith
+follows-on InOrder e (b ∷ t) h r = omega (arith, follows-on InOrder (end b) t h (r .1), eqb-true (b .start) e (r .0 .follow))
+
+pub keeps : {g : Settings} {rs : List Reading} {s : State} {l : List ℤ} → Reached g rs s l → Kept g rs s l
 unfolding isHeld
-keeps {rs} {s} {l} r =
+keeps {g} {rs} {s} {l} r =
     let k = known r in
     let f = sound-facts s l (k .fit) in
     let positive : 1 ≤ s .settings .steps = steps-bounds (s .settings) (f .steps-good) .0 in
     let d = demand3 (s .settings) rs positive (k .taken) in
     let v : Served (s .settings .kind) (2 * s .settings .steps) rs (tableOf s l) (d .0) = subst (λ (t : Table). Served (s .settings .kind) (2 * s .settings .steps) rs t (d .0)) (sym (k .buckets)) (d .1) in
+    let same : s .settings .steps ≡ g .steps = ap (λ (x : Settings). x .steps) (k .named) in
     record {
+      named = k .named;
       fit = k .fit;
-      buckets = k .buckets;
+      buckets = k .buckets ∙ ap (λ (x : Settings). tableAfter x rs) (k .named);
       picture = λ c E few near.
-          let p = v .picture c E (omega arith) near in (
+          let p = v .picture c E (omega (arith, same)) near in (
             λ q m.
                 let b = p .0 q m in
                 record { bucket = b .0; answer = shows s l (q .tick) (b .0) (k .fit) (held-small (s .settings .kind) 0 (q .tick) (tableOf s l) (f .rules) (omega (arith, held-counts 0 (q .tick) (tableOf s l) (sound-ordered s l f), is-held (holding (q .tick) (tableOf s l)) (b .1)))) (b .1); near = b .2 },
             p .1,
           );
-      size = omega (arith, v .size, length-slots l 0 (s .used), ap (limit (s .settings)) (v .true-runs));
+      size = omega (arith, v .size, length-slots l 0 (s .used), ap (limit (s .settings)) (v .true-runs), ap (λ (x : Settings). limit x (runsOf rs)) (k .named));
+      runs = f .true-runs ∙ v .true-runs;
+      readings = f .true-readings ∙ v .each;
+      next = λ in-order. omega (arith, follows-on (s .settings .kind) 0 (tableOf s l) (ap (λ (x : Settings). late (x .kind)) (k .named) ∙ in-order) (f .rules), v .each);
       covers = v .covers;
+      extremes = v .extremes;
     }
   where
     is-held : (o : Option Bucket) {b : Bucket} → o ≡ some b → one (isHeld o) ≡ 1

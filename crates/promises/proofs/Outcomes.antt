@@ -1,17 +1,22 @@
 -- What an accepted outcome says, and that a refused one leaves the room as it stood.
-use Prim.Native.Nat.{ℕ, _<_}
+use Prim.Native.Nat.{ℕ, _*_, _<_}
 use mathlib.Core.Path.{_≡_, refl, sym, ap, _∙_}
 use mathlib.Core.Bool.{Bool, true, false, not}
-use mathlib.Core.List.{List}
+use mathlib.Core.List.{List, _++_}
 use native.Mathlib.Omega.{arith}
 use borrow.Author.Tests.{leb-false, not-false}
 use lib.Dec.{leb, ltb}
 use lib.IntN.{ℤ}
+use lib.ListN.{drop, length, take}
+use lib.Seq.{take-at}
 use Rattle.rule.specs.declared.Refusal.{Refusal}
 use Rattle.rule.specs.declared.Settings.{Settings}
 use Rattle.rule.specs.declared.State.{State}
-use Rattle.rule.specs.Calls.{Verdict, accepted, admitted, isHeld, late, lateVerdict, nextVerdict, refuse, refused, stateOf, traced}
-use Rattle.rule.specs.Numbers.{ticks}
+use Rattle.rule.specs.Calls.{Verdict, accepted, admitted, isHeld, late, lateVerdict, nextVerdict, refuse, refused, saveOutcome, stateOf, traced, writeVerdict, wrote}
+use Rattle.rule.specs.Numbers.{recordWidth, ticks}
+use Rattle.rule.specs.declared.Written.{Written}
+use Rattle.rule.specs.Bytes.{saved}
+use Rattle.record.proofs.RoundTrip.{length-saved}
 use Rattle.rule.specs.Room.{gapsGood, laid, roomy, sound, stepsGood, tableOf}
 use Rattle.rule.specs.Table.{Table, accept, holding, insert, needed, nextTick, runs, single}
 
@@ -82,3 +87,21 @@ late-taken s l tick v t e =
     let d = refuse-accepted (isHeld (holding tick (tableOf s l))) Refusal.Taken _ t (c .1) in
     let f = refuse-accepted (ltb (s .settings .gaps) (runs (insert (single tick v) (tableOf s l)))) Refusal.Runs _ t (d .1) in
     record { fit = not-false (sound s l) (a .0); kind = not-false (late (s .settings .kind)) (b .0); small = leb-false ticks tick (c .0); free = d .0; table = same-table (f .1) }
+
+-- ---- save
+
+pub bytes-written : (s : State) (l : List ℤ) (out : List ℕ) (n : ℕ) (written : List ℕ) → saveOutcome s l out ≡ (Written.Buckets n, written) → take (recordWidth * n) written ≡ saved (tableOf s l)
+unfolding writeVerdict wrote
+bytes-written s l out n written e = by-verdict (writeVerdict s l (recordWidth * s .used) (length out)) refl e
+  where
+    by-verdict : (v : Verdict Table) → writeVerdict s l (recordWidth * s .used) (length out) ≡ v → wrote saved out v ≡ (Written.Buckets n, written) → take (recordWidth * n) written ≡ saved (tableOf s l)
+    by-verdict (refused r) q f =
+        absurd (let w : _≡_ {A = Written} (Written.Refused r) (Written.Buckets n) = ap (λ (o : Written × List ℕ). o .0) f in let z : _≡_ {A = ℕ} 0 1 = cc in omega arith)
+    by-verdict (accepted t) q f =
+        let a = refuse-accepted (not (sound s l)) Refusal.Unsound _ t q in
+        let b = refuse-accepted (ltb (length out) (recordWidth * s .used)) Refusal.Short _ t (a .1) in
+        let table : t ≡ tableOf s l = same-table (b .1) in
+        let w : _≡_ {A = Written} (Written.Buckets (length t)) (Written.Buckets n) = ap (λ (o : Written × List ℕ). o .0) f in
+        let many : length t ≡ n = cc in
+        let bytes : saved t ++ drop (length (saved t)) out ≡ written = ap (λ (o : Written × List ℕ). o .1) f in
+        ap (take (recordWidth * n)) (sym bytes) ∙ take-at (saved t) (drop (length (saved t)) out) (recordWidth * n) (omega (arith, length-saved t, many)) ∙ ap saved table

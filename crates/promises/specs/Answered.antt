@@ -1,7 +1,7 @@
 -- Demand 1: every call ends with its answer, or with one refusal of document 01's table, given exactly when the table says.
-use Prim.Native.Nat.{ℕ, _+_, _*_, _%_, min}
+use Prim.Native.Nat.{ℕ, _+_, _*_, _/_, _%_, _<_, min}
 use mathlib.Core.Path.{_≡_}
-use mathlib.Core.Bool.{Bool, cond, not, _&&_, _||_}
+use mathlib.Core.Bool.{Bool, false, cond, not, _&&_, _||_}
 use mathlib.Core.List.{List, [], _∷_, _++_}
 use mathlib.Core.Option.{Option, some, none}
 use lib.Dec.{eqb, leb, ltb}
@@ -9,6 +9,7 @@ use lib.IntN.{ℤ}
 use lib.ListN.{length}
 use Rattle.rule.specs.declared.Bucket.{Bucket}
 use Rattle.rule.specs.declared.Found.{Found}
+use Rattle.rule.specs.declared.Kind.{Kind}
 use Rattle.rule.specs.declared.Settings.{Settings}
 use Rattle.rule.specs.declared.State.{State}
 use Rattle.rule.specs.declared.Tally.{Tally}
@@ -16,10 +17,12 @@ use Rattle.rule.specs.declared.Written.{Written}
 use Rattle.rule.specs.Answers.{number, place}
 use Rattle.rule.specs.Bytes.{recordsOf}
 use Rattle.rule.specs.Calls.{Verdict, accepted, counted, isHeld, kept, late, lateOutcome, loaded, lookupOutcome, nextOutcome, opened, refused, rowOutcome, saveOutcome}
+use Rattle.rule.specs.Files.{FirstBroken, meets}
 use Rattle.rule.specs.Numbers.{most, recordWidth, slotWidth, tallyMost, ticks}
 use Rattle.rule.specs.Room.{sound, tableOf}
 use Rattle.rule.specs.Rules.{Fault, fault, firstFault, ruled, whole}
 use Rattle.rule.specs.Table.{accept, holding, limit, needed, nextTick, runs}
+use Rattle.row.specs.Parts.{numbersOutcome}
 
 -- ---- the table, call by call, in the orders of document 01
 
@@ -119,8 +122,13 @@ pub record Demand1 : Type 0 where
   pub lates : (s : State) (l : List ℤ) (tick : ℕ) (v : ℤ) → let o = lateOutcome s l tick v in Answered (said (o .0)) (lateRows s l tick v) l (o .1)
   pub lookups : (s : State) (l : List ℤ) (tick : ℕ) → saidFound (lookupOutcome s l tick) ≡ firstOf (lookupRows s l tick)
   pub rows : (s : State) (l : List ℤ) (out : List Bucket) → let o = rowOutcome s l out in Answered (saidWritten (o .0)) (writeRows s l (length out) (s .used)) out (o .1)
+  -- the row in numbers, four to a bucket
+  pub numbers : (s : State) (l : List ℤ) (out : List ℤ) → let o = numbersOutcome s l out in Answered (saidWritten (o .0)) (writeRows s l (length out) (slotWidth * s .used)) out (o .1)
   pub saves : (s : State) (l : List ℤ) (out : List ℕ) → let o = saveOutcome s l out in Answered (saidWritten (o .0)) (writeRows s l (length out) (recordWidth * s .used)) out (o .1)
   pub loads : (g : Settings) (file : List ℕ) (l : List ℤ) → let o = loaded g file l in Answered (said (o .0)) (openRows g l ++ fileRows g file) l (o .1)
+  -- 8: the record at its place is the file's, it breaks a rule, and all before it meet them; and it is due wherever a record breaks one
+  pub places : (g : Settings) (file : List ℕ) (l : List ℤ) (i : ℕ) → said (loaded g file l .0) ≡ some (8, i) → FirstBroken (g .kind) file i
+  pub breaks : (k : Kind) (file : List ℕ) (i : ℕ) → i < length file / recordWidth → meets k file i ≡ false → ruled k (recordsOf file) ≡ false
   -- the one thing that a refused reading changes
   pub tally : (t : Tally) (used : ℕ) (o : Verdict State) (r : ℕ × ℕ) → said o ≡ some r
       → counted t used o ≡ record { accepted = t .accepted; refused = min (t .refused + 1) tallyMost; merges = t .merges }

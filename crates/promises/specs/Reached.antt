@@ -1,29 +1,34 @@
 -- What a caller can reach from an open, each call getting the state and the room as the last one left them.
-use Prim.Native.Nat.{ℕ}
+use Prim.Native.Nat.{ℕ, _*_}
 use mathlib.Core.Path.{_≡_}
 use mathlib.Core.Bool.{true}
 use mathlib.Core.List.{List, [], _∷_}
 use lib.IntN.{ℤ}
+use lib.ListN.{take}
 use Rattle.rule.specs.declared.Refusal.{Refusal}
 use Rattle.rule.specs.declared.Settings.{Settings}
 use Rattle.rule.specs.declared.State.{State}
-use Rattle.rule.specs.Bytes.{saved}
-use Rattle.rule.specs.Calls.{refused, accepted, lateOutcome, loaded, nextOutcome, opened}
+use Rattle.rule.specs.Numbers.{recordWidth}
+use Rattle.rule.specs.declared.Written.{Written}
+use Rattle.rule.specs.Calls.{refused, accepted, kept, lateOutcome, loaded, nextOutcome, opened, saveOutcome}
 use Rattle.rule.specs.Room.{signed, tableOf}
 use Rattle.rule.specs.Table.{nextTick}
 use Rattle.demands.specs.History.{Reading}
 
--- after the accepted readings rs, newest first, the state is s and the room holds l
-pub data Reached : List Reading → State → List ℤ → Type 0 where
+-- opened with the settings g, the state is s and the room holds l after the accepted readings rs, newest first
+pub data Reached (g : Settings) : List Reading → State → List ℤ → Type 0 where
   -- opened empty, in any room
-  opens : (g : Settings) (l : List ℤ) {m : List ℤ} {s : State} → opened g l ≡ (accepted s, m) → Reached [] s m
+  opens : (l : List ℤ) {m : List ℤ} {s : State} → opened g l ≡ (accepted s, m) → Reached g [] s m
   -- an accepted reading, any signed 32-bit number
-  nexts : {rs : List Reading} {s t : State} {l m : List ℤ} (v : ℤ) → signed v ≡ true → Reached rs s l → nextOutcome s l v ≡ (accepted t, m)
-      → Reached (record { tick = nextTick (tableOf s l); value = v } ∷ rs) t m
-  lates : {rs : List Reading} {s t : State} {l m : List ℤ} (tick : ℕ) (v : ℤ) → signed v ≡ true → Reached rs s l → lateOutcome s l tick v ≡ (accepted t, m)
-      → Reached (record { tick = tick; value = v } ∷ rs) t m
-  -- a refused one: the caller goes on with the state that was given and the room that was left
-  next-refused : {rs : List Reading} {s : State} {l m : List ℤ} {r : Refusal} (v : ℤ) → Reached rs s l → nextOutcome s l v ≡ (refused r, m) → Reached rs s m
-  late-refused : {rs : List Reading} {s : State} {l m : List ℤ} {r : Refusal} (tick : ℕ) (v : ℤ) → Reached rs s l → lateOutcome s l tick v ≡ (refused r, m) → Reached rs s m
-  -- saved, and loaded with the same settings into any room
-  loads : {rs : List Reading} {s t : State} {l m : List ℤ} (room : List ℤ) → Reached rs s l → loaded (s .settings) (saved (tableOf s l)) room ≡ (accepted t, m) → Reached rs t m
+  nexts : {rs : List Reading} {s t : State} {l m : List ℤ} (v : ℤ) → signed v ≡ true → Reached g rs s l → nextOutcome s l v ≡ (accepted t, m)
+      → Reached g (record { tick = nextTick (tableOf s l); value = v } ∷ rs) t m
+  lates : {rs : List Reading} {s t : State} {l m : List ℤ} (tick : ℕ) (v : ℤ) → signed v ≡ true → Reached g rs s l → lateOutcome s l tick v ≡ (accepted t, m)
+      → Reached g (record { tick = tick; value = v } ∷ rs) t m
+  -- a refused call: the caller goes on with the state that was given and the room that was left
+  next-refused : {rs : List Reading} {s : State} {l m : List ℤ} {r : Refusal} (v : ℤ) → Reached g rs s l → nextOutcome s l v ≡ (refused r, m) → Reached g rs s m
+  late-refused : {rs : List Reading} {s : State} {l m : List ℤ} {r : Refusal} (tick : ℕ) (v : ℤ) → Reached g rs s l → lateOutcome s l tick v ≡ (refused r, m) → Reached g rs s m
+  open-refused : {rs : List Reading} {s : State} {l m : List ℤ} {r : Refusal} (h : Settings) → Reached g rs s l → opened h l ≡ (refused r, m) → Reached g rs s m
+  load-refused : {rs : List Reading} {s : State} {l m : List ℤ} {r : Refusal} (h : Settings) (file : List ℕ) → Reached g rs s l → loaded h file l ≡ (refused r, m) → Reached g rs s m
+  -- saved by the call into any output, and the bytes that it wrote loaded into any room with the same settings, in order with any K
+  loads : {rs : List Reading} {s t : State} {l m : List ℤ} {written : List ℕ} {n : ℕ} (out : List ℕ) (room : List ℤ) (h : Settings) → kept h ≡ kept g → Reached g rs s l
+      → saveOutcome s l out ≡ (Written.Buckets n, written) → loaded h (take (recordWidth * n) written) room ≡ (accepted t, m) → Reached g rs t m

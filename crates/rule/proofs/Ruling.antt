@@ -1,24 +1,27 @@
 -- The record rules as facts, and that merging and inserting keep them.
-use Prim.Native.Nat.{ℕ, zero, suc, _+_, _-_, _≤_, _<_}
+use Prim.Native.Nat.{ℕ, zero, suc, _+_, _/_, _≤_, _<_}
 use mathlib.Core.Path.{_≡_, refl, sym, ap, _∙_, subst}
 use mathlib.Core.Bool.{Bool, true, false, cond, not, _&&_, _||_, false≢true}
 use mathlib.Core.List.{List, [], _∷_, _++_}
 use native.Mathlib.Omega.{arith}
-use borrow.Author.Tests.{leb-true, le-leb, eqb-true, eq-eqb, le-ltb, lt-ltb, ltb-false, ne-eqb}
+use borrow.Author.Tests.{leb-true, le-leb, eqb-false, eqb-true, eq-eqb, le-ltb, lt-ltb, ltb-false, ne-eqb}
 use lib.Dec.{leb, ltb, eqb}
 use lib.IntN.{ℤ}
-use lib.ListN.{length, take}
+use lib.ListN.{length}
 use lib.Signed.{leZ}
 use Rattle.rule.specs.declared.Bucket.{Bucket}
 use Rattle.rule.specs.declared.Kind.{Kind}
 use Rattle.rule.specs.declared.Kind.the-variants.{InOrder, Late}
 use Rattle.rule.specs.declared.Settings.{Settings}
-use Rattle.rule.specs.Numbers.{ticks}
+use Rattle.rule.specs.Numbers.{recordWidth, ticks}
 use Rattle.rule.specs.Bucket.{end, neighbours, union}
 use Rattle.rule.specs.Table.{Table, Ordered, holders, holds, insert, lastEnd, merge, nextTick, readings, runs, runsAfter, settle, single}
-use Rattle.rule.specs.Rules.{Fault, fault, broken, equal, faultAt, firstFalse, firstFault, follows, isWhole, ruled, rules}
+use Rattle.rule.specs.Bytes.{recordAt, records, recordsOf}
+use Rattle.rule.specs.Files.{Finds, endBefore, meets}
+use Rattle.rule.specs.Rules.{Fault, fault, whole, broken, equal, faultAt, firstFalse, firstFault, follows, isWhole, ruled, rules}
 use Rattle.rule.specs.Room.{allOf}
-use Rattle.rule.proofs.Whole.{by-test, whole}
+use Rattle.rule.proofs.Whole.{by-test}
+use Rattle.rule.proofs.Whole as wholes
 use Rattle.rule.proofs.Errors.{larger-left, leZ-refl, lesser-left}
 use Rattle.rule.proofs.Tables.{holds-counts, insert-cases, leb-counts, union-end}
 use Rattle.rule.proofs.Merging.{Enough, merges, settle-keeps}
@@ -68,7 +71,7 @@ level-rule : (b : Bucket) → not (eqb (b .count) 1) || equal (b .least) (b .lar
 unfolding equal
 level-rule b h one =
     let e : leZ (b .least) (b .largest) && leZ (b .largest) (b .least) ≡ true = rw (eq-eqb (b .count) 1 one) at h in
-    omega (whole, and-left (leZ (b .least) (b .largest)) (leZ (b .largest) (b .least)) e, and-right (leZ (b .least) (b .largest)) (leZ (b .largest) (b .least)) e)
+    omega (wholes.whole, and-left (leZ (b .least) (b .largest)) (leZ (b .largest) (b .least)) e, and-right (leZ (b .least) (b .largest)) (leZ (b .largest) (b .least)) e)
 
 rule-level : (b : Bucket) → (b .count ≡ 1 → b .least ≡ b .largest) → not (eqb (b .count) 1) || equal (b .least) (b .largest) ≡ true
 unfolding equal
@@ -134,7 +137,7 @@ union-meets k e a b touching m n =
     record {
       positive = omega (arith, m .positive);
       inside = rw (union-end a b touching) (n .inside);
-      ordered = omega (whole, lesser-left (a .least) (b .least), m .ordered, larger-left (a .largest) (b .largest));
+      ordered = omega (wholes.whole, lesser-left (a .least) (b .least), m .ordered, larger-left (a .largest) (b .largest));
       single-level = λ h. absurd (omega (arith, m .positive, n .positive));
       follow = same-start k (m .follow);
     }
@@ -196,25 +199,54 @@ late-ruled e tick v (a ∷ t) r h k free =
     let past : end a ≤ tick = omega (arith, holds-counts tick a, leb-counts (end a) tick, leb-counts (a .start) tick) in
     (r .0, late-ruled (end a) tick v t (r .1) past k (omega arith)))
 
--- ---- the first fault is the first
+-- ---- the first fault of a file is the first
 
-fault-place : {i j q r : ℕ} → _≡_ {A = Fault} (fault i q) (fault j r) → i ≡ j
-fault-place e = cc
+-- of n records from record i, what the pass over them may find
+FindsFrom : Kind → List ℕ → ℕ → ℕ → Fault → Type 0
+FindsFrom k file i n whole = (j : ℕ) → i ≤ j → j < i + n → meets k file j ≡ true
+FindsFrom k file i n (fault j r) = (i ≤ j) × (j < i + n) × (meets k file j ≡ false) × ((m : ℕ) → i ≤ m → m < j → meets k file m ≡ true)
 
-first-step : (k : Kind) (e i : ℕ) (b : Bucket) (t : Table) (j r q : ℕ) → broken k e b ≡ q → faultAt i q (firstFault k (end b) (suc i) t) ≡ fault j r
-    → (firstFault k (end b) (suc i) t ≡ fault j r → (suc i ≤ j) × (isWhole (firstFault k (end b) (suc i) (take (j - suc i) t)) ≡ true)) → (i ≤ j) × (isWhole (firstFault k e i (take (j - i) (b ∷ t))) ≡ true)
-unfolding faultAt firstFault isWhole
-first-step k e i b t j r zero h p more =
-    let w = more p in
-    let next : j - i ≡ suc (j - suc i) = omega (arith, w .0) in
-    (omega (arith, w .0), rw (next, h) (w .1))
-first-step k e i b t j r (suc q) h p more =
-    let here : i ≡ j = fault-place p in
-    let none : j - i ≡ 0 = omega arith in
-    (omega arith, rw none refl)
+-- the number of the first rule that fails tells whether all hold
+no-rule : (i : ℕ) (l : List Bool) → firstFalse (suc i) l ≡ 0 → allOf l ≡ true
+unfolding firstFalse allOf
+no-rule i [] e = refl
+no-rule i (true ∷ l) e = no-rule (suc i) l e
+no-rule i (false ∷ l) e = absurd (omega arith)
 
--- the records before the first fault meet the rules
-pub first-is-first : (k : Kind) (e i : ℕ) (t : Table) (j r : ℕ) → firstFault k e i t ≡ fault j r → (i ≤ j) × (isWhole (firstFault k e i (take (j - i) t)) ≡ true)
-unfolding firstFault
-first-is-first k e i [] j r p = absurd (let z : _≡_ {A = ℕ} 0 1 = cc in omega arith)
-first-is-first k e i (b ∷ t) j r p = first-step k e i b t j r (broken k e b) refl p (first-is-first k (end b) (suc i) t j r)
+some-rule : (i q : ℕ) (l : List Bool) → firstFalse i l ≡ suc q → allOf l ≡ false
+unfolding firstFalse allOf
+some-rule i q [] e = absurd (omega arith)
+some-rule i q (true ∷ l) e = some-rule (suc i) q l e
+some-rule i q (false ∷ l) e = refl
+
+module _ (k : Kind) (file : List ℕ) where
+  -- a record at least i meets the rules where record i does and those behind it do
+  or-here : (i j : ℕ) → i ≤ j → meets k file i ≡ true → (i < j → meets k file j ≡ true) → meets k file j ≡ true
+  or-here i j low met behind =
+      by-test (eqb i j) (λ same. subst (λ (m : ℕ). meets k file m ≡ true) (eqb-true i j same) met) (λ other. behind (omega (arith, eqb-false i j other)))
+
+  finds-step : (i n q : ℕ) → broken k (endBefore file i) (recordAt file i) ≡ q → (f : Fault) → FindsFrom k file (suc i) n f → FindsFrom k file i (suc n) (faultAt i q f)
+  unfolding faultAt FindsFrom meets broken
+  finds-step i n zero e whole h =
+      let met = no-rule 0 (rules k (endBefore file i) (recordAt file i)) e in
+      λ j low high. or-here i j low met (λ behind. h j behind (omega arith))
+  finds-step i n zero e (fault j r) h =
+      let met = no-rule 0 (rules k (endBefore file i) (recordAt file i)) e in
+      (omega (arith, h .0), omega (arith, h .1), h .2, λ m low high. or-here i m low met (λ behind. h .3 m behind high))
+  finds-step i n (suc q) e f h =
+      (omega arith, omega arith, some-rule 1 q (rules k (endBefore file i) (recordAt file i)) e, λ m low high. absurd (omega arith))
+
+  finds-from : (i n : ℕ) → FindsFrom k file i n (firstFault k (endBefore file i) i (records file i n))
+  unfolding FindsFrom firstFault records endBefore
+  finds-from i zero = λ j low high. absurd (omega arith)
+  finds-from i (suc n) = finds-step i n (broken k (endBefore file i) (recordAt file i)) refl (firstFault k (endBefore file (suc i)) (suc i) (records file (suc i) n)) (finds-from (suc i) n)
+
+  found-from : (f : Fault) → FindsFrom k file 0 (length file / recordWidth) f → Finds k file f
+  unfolding FindsFrom Finds
+  found-from whole h = λ i high. h i (omega arith) (omega arith)
+  found-from (fault i r) h = record { inside = omega (arith, h .1); breaks = h .2; before = λ j high. h .3 j (omega arith) high }
+
+  -- what refusal 8 says: its place is that of the first record of the file that breaks a rule, and where it is not due all meet them
+  pub first-is-first : Finds k file (firstFault k 0 0 (recordsOf file))
+  unfolding recordsOf endBefore
+  first-is-first = found-from (firstFault k 0 0 (recordsOf file)) (finds-from 0 (length file / recordWidth))

@@ -5,6 +5,7 @@ pub mod Table
 pub mod Rules
 pub mod Room
 pub mod Bytes
+pub mod Files
 pub mod Answers
 pub mod Calls
 pub mod Outcomes

@@ -1,5 +1,5 @@
--- In a session merges equals accepted minus buckets, and the session of the definitions is the one that the calls' contracts make.
-use Prim.Native.Nat.{ℕ, suc, _+_, _≤_, _<_}
+-- In a session the tally's counts are the numbers of accepted and refused readings, merges equals accepted minus buckets, and the session of the definitions is the one that the calls' contracts make.
+use Prim.Native.Nat.{ℕ, suc, _+_, _≤_, _<_, min}
 use mathlib.Core.Path.{_≡_, refl, sym, ap, _∙_, subst}
 use mathlib.Core.Bool.{true, not}
 use mathlib.Core.List.{List, [], _∷_}
@@ -11,34 +11,48 @@ use mir.Val.{SFits}
 use Rattle.rule.specs.declared.Refusal.{Refusal}
 use Rattle.rule.specs.declared.Settings.{Settings}
 use Rattle.rule.specs.declared.State.{State}
-use Rattle.rule.specs.declared.Tally.{Tally}
 use Rattle.rule.specs.Calls.{Verdict, accepted, admitted, counted, grown, kept, opened, refused, stateOf, traced}
-use Rattle.rule.specs.Numbers.{ticks, word}
+use Rattle.rule.specs.Numbers.{tallyMost, ticks, word}
 use Rattle.rule.specs.Room.{gapsGood, roomy, sound, stepsGood, tableOf}
 use Rattle.rule.specs.Table.{Table, accept, readings}
 use Rattle.rule.proofs.Signed.{signed-fits}
 use Rattle.room.proofs.Sounding.{sound-facts, sound-readings}
 use Rattle.trace.specs.declared.Answer.{Answer}
-use Rattle.trace.specs.Answers.{answer, answered}
+use Rattle.trace.specs.Answers.{answer}
 use Rattle.trace.specs.Left.{LeavesSound, LeftBy}
 use Rattle.trace.specs.Ready.{Ready}
 use Rattle.trace.proofs.Leaving.{late-either, next-either, open-leaves, past-refusal}
 use Rattle.trace.proofs.Taking.{taken-short, taken-sound, taken-state}
-use Rattle.tally.specs.Session.{AlwaysBalanced, Balanced, Reading, Session, after, begun, late, left, next, onward, outcome, verdict}
+use Rattle.tally.specs.Session.{AlwaysTallied, CallsLeave, GrownTally, Reading, Session, TrueTally, acceptedAmong, acceptedOne, after, begun, late, left, next, onward, outcome, refusedAmong, refusedOne, verdict}
 
--- ---- a session of calls
+-- ---- how the counts grow, on any state and room with any tally
 
-pub verdict-answer : (v : Verdict State) → verdict (answer v) ≡ v
-unfolding verdict answer
-verdict-answer (refused r) = refl
-verdict-answer (accepted s) = refl
+-- each outcome is counted once
+one-each : (v : Verdict State) → acceptedOne v + refusedOne v ≡ 1
+unfolding acceptedOne refusedOne
+one-each (refused r) = refl
+one-each (accepted s) = refl
 
--- what `next` and `late` ensure of answer, room and tally makes what the definition leaves
-pub calls-leave : (c : Session) (o : Verdict State × List ℤ) (r : Answer) (l : List ℤ) (t : Tally) → (r, l) ≡ answered o → t ≡ counted (c .tally) (c .state .used) (verdict r)
-    → record { state = onward (c .state) (verdict r); room = l; tally = t } ≡ left c o
-calls-leave c o r l t e f =
-    let v : verdict r ≡ o .0 = ap (λ (a : Answer × List ℤ). verdict (a .0)) e ∙ verdict-answer (o .0) in
-    λ i. record { state = onward (c .state) (v i); room = e i .1; tally = (f ∙ ap (counted (c .tally) (c .state .used)) v) i }
+accepted-one : (c : Session) (o : Verdict State × List ℤ) → c .tally .accepted ≤ tallyMost → left c o .tally .accepted ≡ min (c .tally .accepted + acceptedOne (o .0)) tallyMost
+unfolding counted grown acceptedOne
+accepted-one c (refused r, l) small = omega arith
+accepted-one c (accepted s, l) small = omega arith
+
+refused-one : (c : Session) (o : Verdict State × List ℤ) → c .tally .refused ≤ tallyMost → left c o .tally .refused ≡ min (c .tally .refused + refusedOne (o .0)) tallyMost
+unfolding counted grown refusedOne
+refused-one c (refused r, l) small = omega arith
+refused-one c (accepted s, l) small = omega arith
+
+grows : (c : Session) (rs : List Reading) → GrownTally c rs
+unfolding after acceptedAmong refusedAmong
+grows c [] = record { each = refl; accepted-grown = λ small. omega arith; refused-grown = λ small. omega arith }
+grows c (r ∷ rs) =
+    let rest = grows (left c (outcome c r)) rs in
+    record {
+      each = omega (arith, one-each (outcome c r .0), rest .each);
+      accepted-grown = λ small. let first = accepted-one c (outcome c r) small in omega (arith, first, rest .accepted-grown (omega (arith, first)));
+      refused-grown = λ small. let first = refused-one c (outcome c r) small in omega (arith, first, rest .refused-grown (omega (arith, first)));
+    }
 
 -- ---- one reading
 
@@ -46,7 +60,7 @@ calls-leave c o r l t e f =
 record Even (c : Session) : Type 0 where
   fit : sound (c .state) (c .room) ≡ true
   each : c .tally .accepted ≡ c .state .readings
-  balanced : Balanced c
+  balanced : c .tally .merges + c .state .used ≡ c .tally .accepted
 
 module _ (c : Session) (e : Even c) where
   abbrev state : State
@@ -60,7 +74,7 @@ module _ (c : Session) (e : Even c) where
 
   refused-stays : (r : Refusal) → Stays (refused r)
   unfolding traced onward counted
-  refused-stays r = record { fit = e .fit; each = e .each; balanced = e .balanced }
+  refused-stays r = record { fit = e .fit; each = omega (arith, e .each); balanced = omega (arith, e .balanced) }
 
   taken-stays : (at k tick : ℕ) (v : ℤ) → Ready state room at k tick v → SFits w32 v → tick < word → Stays (accepted (accept (state .settings) (tableOf state room) tick v))
   unfolding traced onward counted grown
@@ -94,15 +108,37 @@ opened-empty s l =
     (λ _. past-refusal P (not (gapsGood (kept s .kind) (kept s .gaps))) Refusal.Gaps _ refl
     (λ _. past-refusal P (not (roomy (kept s) l)) Refusal.Room _ refl (λ _. refl)))
 
-pub always-balanced : AlwaysBalanced
+-- a sound trace has at most `ticks` readings, so accepted has not stopped
+from-opening : (s : Settings) (l : List ℤ) (st : State) (l′ : List ℤ) → opened s l ≡ (accepted st, l′) → (rs : List Reading) → TrueTally (begun st l′) rs
 unfolding LeftBy onward readings
-always-balanced s l st l′ e rs =
+from-opening s l st l′ e rs =
     let empty : st ≡ stateOf (kept s) [] = ap (λ (o : Verdict State × List ℤ). onward (stateOf (kept s) []) (o .0)) (sym e) ∙ opened-empty s l in
-    let none : 0 + st .used ≡ 0 = omega (arith, ap (λ (z : State). z .used) empty) in
-    after-even (begun st l′)
-    (record {
+    let start : Even (begun st l′) = record {
       fit = subst LeavesSound e (open-leaves s l);
-      each = sym (ap (λ (z : State). z .readings) empty);
-      balanced = none;
-    })
-    rs .balanced
+      each = omega (arith, ap (λ (z : State). z .readings) empty);
+      balanced = omega (arith, ap (λ (z : State). z .used) empty);
+    } in
+    let even = after-even (begun st l′) start rs in
+    let last : Session = after (begun st l′) rs in
+    let facts = sound-facts (last .state) (last .room) (even .fit) in
+    let most : last .state .readings ≤ ticks = omega (arith, facts .true-readings, sound-readings (last .state) (last .room) facts) in
+    record {
+      accepted-true = omega (arith, most, even .each, grows (begun st l′) rs .accepted-grown (omega arith));
+      refused-true = omega (arith, grows (begun st l′) rs .refused-grown (omega arith));
+      merges-true = omega (arith, even .balanced);
+    }
+
+pub always-tallied : AlwaysTallied
+always-tallied = record { any = grows; fresh = from-opening }
+
+-- ---- a session of calls
+
+pub verdict-answer : (v : Verdict State) → verdict (answer v) ≡ v
+unfolding verdict answer
+verdict-answer (refused r) = refl
+verdict-answer (accepted s) = refl
+
+pub calls-leave : CallsLeave
+calls-leave c x r l t e f =
+    let v : verdict r ≡ outcome c x .0 = ap (λ (a : Answer × List ℤ). verdict (a .0)) e ∙ verdict-answer (outcome c x .0) in
+    λ i. record { state = onward (c .state) (v i); room = e i .1; tally = (f ∙ ap (counted (c .tally) (c .state .used)) v) i }

@@ -1,16 +1,19 @@
 -- A session of document 01: one trace from its opening and one tally, through readings, each call getting what the last one left.
-use Prim.Native.Nat.{ℕ, _+_}
+use Prim.Native.Nat.{ℕ, _+_, _≤_, min}
 use mathlib.Core.Path.{_≡_}
 use mathlib.Core.Bool.{true}
 use mathlib.Core.List.{List, [], _∷_}
 use lib.IntN.{ℤ}
+use lib.ListN.{length}
 use Rattle.rule.specs.declared.Settings.{Settings}
 use Rattle.rule.specs.declared.State.{State}
 use Rattle.rule.specs.declared.Tally.{Tally}
 use Rattle.rule.specs.Calls.{Verdict, refused, accepted, counted, lateOutcome, nextOutcome, opened}
+use Rattle.rule.specs.Numbers.{tallyMost}
 use Rattle.rule.specs.Room.{signed}
 use Rattle.trace.specs.declared.Answer.{Answer}
 use Rattle.trace.specs.declared.Answer.the-variants.{Accepted, Refused}
+use Rattle.trace.specs.Answers.{answered}
 
 -- the verdict that an answer is of
 unfoldable pub verdict : Answer → Verdict State
@@ -50,10 +53,48 @@ unfoldable pub after : Session → List Reading → Session
 after c [] = c
 after c (r ∷ rs) = after (left c (outcome c r)) rs
 
--- merges equals accepted minus buckets
-abbrev pub Balanced : Session → Type 0
-Balanced c = c .tally .merges + c .state .used ≡ c .tally .accepted
+-- such a session is what a caller has: the answer, the room and the tally that the contracts of `next` and `late` ensure make what `left` says
+abbrev pub CallsLeave : Type 0
+CallsLeave = (c : Session) (x : Reading) (r : Answer) (l : List ℤ) (t : Tally) → (r, l) ≡ answered (outcome c x) → t ≡ counted (c .tally) (c .state .used) (verdict r)
+    → record { state = onward (c .state) (verdict r); room = l; tally = t } ≡ left c (outcome c x)
 
--- so it is for a fresh tally used with one trace from its opening, each call getting what the last one left, without a load
-abbrev pub AlwaysBalanced : Type 0
-AlwaysBalanced = (s : Settings) (l : List ℤ) (st : State) (l′ : List ℤ) → opened s l ≡ (accepted st, l′) → (rs : List Reading) → Balanced (after (begun st l′) rs)
+-- ---- the readings of a session, counted by their verdicts
+
+unfoldable pub acceptedOne : Verdict State → ℕ
+acceptedOne (refused r) = 0
+acceptedOne (accepted t) = 1
+
+unfoldable pub refusedOne : Verdict State → ℕ
+refusedOne (refused r) = 1
+refusedOne (accepted t) = 0
+
+-- so many of the readings are accepted, each call getting what the last one left
+unfoldable pub acceptedAmong : Session → List Reading → ℕ
+acceptedAmong c [] = 0
+acceptedAmong c (r ∷ rs) = acceptedOne (outcome c r .0) + acceptedAmong (left c (outcome c r)) rs
+
+-- and so many are refused
+unfoldable pub refusedAmong : Session → List Reading → ℕ
+refusedAmong c [] = 0
+refusedAmong c (r ∷ rs) = refusedOne (outcome c r .0) + refusedAmong (left c (outcome c r)) rs
+
+-- ---- what the tally says after them
+
+-- of any state and room, and any tally, whose counts have 32 bits: they grow by those numbers, and stop at the most
+pub record GrownTally (c : Session) (rs : List Reading) : Type 0 where
+  -- no reading is left uncounted
+  pub each : acceptedAmong c rs + refusedAmong c rs ≡ length rs
+  pub accepted-grown : c .tally .accepted ≤ tallyMost → after c rs .tally .accepted ≡ min (c .tally .accepted + acceptedAmong c rs) tallyMost
+  pub refused-grown : c .tally .refused ≤ tallyMost → after c rs .tally .refused ≡ min (c .tally .refused + refusedAmong c rs) tallyMost
+
+-- of a tally that was fresh at the opening c: accepted does not stop, because a trace has fewer ticks
+pub record TrueTally (c : Session) (rs : List Reading) : Type 0 where
+  pub accepted-true : after c rs .tally .accepted ≡ acceptedAmong c rs
+  pub refused-true : after c rs .tally .refused ≡ min (refusedAmong c rs) tallyMost
+  -- merges equals accepted minus buckets
+  pub merges-true : after c rs .tally .merges + after c rs .state .used ≡ after c rs .tally .accepted
+
+pub record AlwaysTallied : Type 0 where
+  pub any : (c : Session) (rs : List Reading) → GrownTally c rs
+  -- a fresh tally used with one trace from its opening, each call getting what the last one left, without a load
+  pub fresh : (s : Settings) (l : List ℤ) (st : State) (l′ : List ℤ) → opened s l ≡ (accepted st, l′) → (rs : List Reading) → TrueTally (begun st l′) rs

@@ -1,11 +1,10 @@
 -- In a session the tally's counts are the numbers of accepted and refused readings, merges equals accepted minus buckets, and the session of the definitions is the one that the calls' contracts make.
-use Prim.Native.Nat.{ℕ, suc, _+_, _≤_, _<_, min}
+use Prim.Native.Nat.{ℕ, _+_, _-_, _≤_, _<_, min}
 use mathlib.Core.Path.{_≡_, refl, sym, ap, _∙_, subst}
 use mathlib.Core.Bool.{true, not}
 use mathlib.Core.List.{List, [], _∷_}
 use native.Mathlib.Omega.{arith}
 use lib.IntN.{ℤ}
-use lib.ListN.{length}
 use mir.Syntax.{w32}
 use mir.Val.{SFits}
 use Rattle.rule.specs.declared.Refusal.{Refusal}
@@ -43,24 +42,55 @@ unfolding counted grown refusedOne
 refused-one c (refused r, l) small = omega arith
 refused-one c (accepted s, l) small = omega arith
 
+merges-one : (c : Session) (o : Verdict State × List ℤ) → c .tally .merges ≤ tallyMost → left c o .tally .merges ≡ min (c .tally .merges + (c .state .used + acceptedOne (o .0) - left c o .state .used)) tallyMost
+unfolding counted grown onward acceptedOne
+merges-one c (refused r, l) small = omega arith
+merges-one c (accepted s, l) small = omega arith
+
+module _ (c : Session) where
+  abbrev Brings : Verdict Table → Type 0
+  Brings v = left c (traced (c .state .settings) (c .room) v) .state .used ≤ c .state .used + acceptedOne (traced (c .state .settings) (c .room) v .0)
+
+  refused-brings : (r : Refusal) → Brings (refused r)
+  unfolding traced onward acceptedOne
+  refused-brings r = omega arith
+
+  taken-brings : (at k tick : ℕ) (v : ℤ) → Ready (c .state) (c .room) at k tick v → SFits w32 v → tick < word → Brings (accepted (accept (c .state .settings) (tableOf (c .state) (c .room)) tick v))
+  unfolding traced onward acceptedOne
+  taken-brings at k tick v r fits small = omega (arith, taken-short (c .state) (c .room) at k tick v r fits small)
+
+  -- a reading brings a bucket at most
+  brings : (r : Reading) → left c (outcome c r) .state .used ≤ c .state .used + acceptedOne (outcome c r .0)
+  unfolding outcome
+  brings (next v ranged) = next-either (c .state) (c .room) v Brings refused-brings (λ at k tick r small. taken-brings at k tick v r (signed-fits v ranged) small)
+  brings (late tick v ranged) = late-either (c .state) (c .room) v Brings refused-brings (λ at k t r small. taken-brings at k t v r (signed-fits v ranged) small) tick
+
+-- to grow twice is to grow by the sum
+twice : (m d e f : ℕ) {n o : ℕ} → n ≡ min (m + d) tallyMost → o ≡ min (n + e) tallyMost → d + e ≡ f → o ≡ min (m + f) tallyMost
+twice m d e f p q s = omega (arith, p, q, s)
+
 grows : (c : Session) (rs : List Reading) → GrownTally c rs
 unfolding after acceptedAmong refusedAmong
-grows c [] = record { each = refl; accepted-grown = λ small. omega arith; refused-grown = λ small. omega arith }
+grows c [] = record { each = refl; accepted-grown = λ small. omega arith; refused-grown = λ small. omega arith; buckets = omega arith; merges-grown = λ small. omega arith }
 grows c (r ∷ rs) =
-    let rest = grows (left c (outcome c r)) rs in
+    let then : Session = left c (outcome c r) in
+    let rest = grows then rs in
+    let one : then .state .used ≤ c .state .used + acceptedOne (outcome c r .0) = brings c r in
+    let more : c .state .used + acceptedOne (outcome c r .0) - then .state .used + (then .state .used + acceptedAmong then rs - after then rs .state .used) ≡ c .state .used + (acceptedOne (outcome c r .0) + acceptedAmong then rs) - after then rs .state .used = omega (arith, one, rest .buckets) in
     record {
       each = omega (arith, one-each (outcome c r .0), rest .each);
       accepted-grown = λ small. let first = accepted-one c (outcome c r) small in omega (arith, first, rest .accepted-grown (omega (arith, first)));
       refused-grown = λ small. let first = refused-one c (outcome c r) small in omega (arith, first, rest .refused-grown (omega (arith, first)));
+      buckets = omega (arith, one, rest .buckets);
+      merges-grown = λ small. let first = merges-one c (outcome c r) small in twice (c .tally .merges) _ _ _ first (rest .merges-grown (omega (arith, first))) more;
     }
 
 -- ---- one reading
 
--- accepted and merges do not stop: each accepted reading takes one of the ticks
+-- accepted does not stop: each accepted reading takes one of the ticks
 record Even (c : Session) : Type 0 where
   fit : sound (c .state) (c .room) ≡ true
   each : c .tally .accepted ≡ c .state .readings
-  balanced : c .tally .merges + c .state .used ≡ c .tally .accepted
 
 module _ (c : Session) (e : Even c) where
   abbrev state : State
@@ -74,7 +104,7 @@ module _ (c : Session) (e : Even c) where
 
   refused-stays : (r : Refusal) → Stays (refused r)
   unfolding traced onward counted
-  refused-stays r = record { fit = e .fit; each = omega (arith, e .each); balanced = omega (arith, e .balanced) }
+  refused-stays r = record { fit = e .fit; each = omega (arith, e .each) }
 
   taken-stays : (at k tick : ℕ) (v : ℤ) → Ready state room at k tick v → SFits w32 v → tick < word → Stays (accepted (accept (state .settings) (tableOf state room) tick v))
   unfolding traced onward counted grown
@@ -83,9 +113,8 @@ module _ (c : Session) (e : Even c) where
       let whole = taken-sound state room at k tick v r fits small in
       let facts = sound-facts (stateOf (state .settings) t) _ whole in
       let more : readings t ≡ state .readings + 1 = ap (λ (z : State). z .readings) (taken-state state room at k tick v r fits small) in
-      let few : length t ≤ suc (state .used) = taken-short state room at k tick v r fits small in
       let most : readings t ≤ ticks = omega (arith, facts .true-readings, sound-readings (stateOf (state .settings) t) _ facts) in
-      record { fit = whole; each = omega (arith, e .each); balanced = omega (arith, e .each, e .balanced) }
+      record { fit = whole; each = omega (arith, e .each) }
 
   stays : (r : Reading) → Even (left c (outcome c r))
   unfolding outcome
@@ -116,16 +145,17 @@ from-opening s l st l′ e rs =
     let start : Even (begun st l′) = record {
       fit = subst LeavesSound e (open-leaves s l);
       each = omega (arith, ap (λ (z : State). z .readings) empty);
-      balanced = omega (arith, ap (λ (z : State). z .used) empty);
     } in
     let even = after-even (begun st l′) start rs in
     let last : Session = after (begun st l′) rs in
     let facts = sound-facts (last .state) (last .room) (even .fit) in
     let most : last .state .readings ≤ ticks = omega (arith, facts .true-readings, sound-readings (last .state) (last .room) facts) in
+    let growth = grows (begun st l′) rs in
+    let true-accepted : last .tally .accepted ≡ acceptedAmong (begun st l′) rs = omega (arith, most, even .each, growth .accepted-grown (omega arith)) in
     record {
-      accepted-true = omega (arith, most, even .each, grows (begun st l′) rs .accepted-grown (omega arith));
-      refused-true = omega (arith, grows (begun st l′) rs .refused-grown (omega arith));
-      merges-true = omega (arith, even .balanced);
+      accepted-true = true-accepted;
+      refused-true = omega (arith, growth .refused-grown (omega arith));
+      merges-true = omega (arith, most, even .each, true-accepted, ap (λ (z : State). z .used) empty, growth .buckets, growth .merges-grown (omega arith));
     }
 
 pub always-tallied : AlwaysTallied

@@ -1,5 +1,5 @@
 -- A session of document 01: one trace from its opening and one tally, through readings, each call getting what the last one left.
-use Prim.Native.Nat.{ℕ, _+_, _≤_, min}
+use Prim.Native.Nat.{ℕ, _+_, _-_, _≤_, min}
 use mathlib.Core.Path.{_≡_}
 use mathlib.Core.Bool.{true}
 use mathlib.Core.List.{List, [], _∷_}
@@ -80,12 +80,15 @@ refusedAmong c (r ∷ rs) = refusedOne (outcome c r .0) + refusedAmong (left c (
 
 -- ---- what the tally says after them
 
--- of any state and room, and any tally, whose counts have 32 bits: they grow by those numbers, and stop at the most
+-- of any state and room, and any tally, whose counts have 32 bits: how they grow, and that they stop at the most
 pub record GrownTally (c : Session) (rs : List Reading) : Type 0 where
   -- no reading is left uncounted
   pub each : acceptedAmong c rs + refusedAmong c rs ≡ length rs
   pub accepted-grown : c .tally .accepted ≤ tallyMost → after c rs .tally .accepted ≡ min (c .tally .accepted + acceptedAmong c rs) tallyMost
   pub refused-grown : c .tally .refused ≤ tallyMost → after c rs .tally .refused ≡ min (c .tally .refused + refusedAmong c rs) tallyMost
+  -- an accepted reading brings a bucket and a merge takes one away, so merges grow by the buckets that are gone
+  pub buckets : after c rs .state .used ≤ c .state .used + acceptedAmong c rs
+  pub merges-grown : c .tally .merges ≤ tallyMost → after c rs .tally .merges ≡ min (c .tally .merges + (c .state .used + acceptedAmong c rs - after c rs .state .used)) tallyMost
 
 -- of a tally that was fresh at the opening c: accepted does not stop, because a trace has fewer ticks
 pub record TrueTally (c : Session) (rs : List Reading) : Type 0 where

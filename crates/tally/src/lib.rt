@@ -62,7 +62,9 @@ pub fn next(trace: Trace, room: &mut [i64], value: i32, tally: &mut Tally) -> An
     ensures { λ r. ⌜ ((r, now (room .exit)) ≡ answered (nextOutcome (trace .state) (now (room .entry)) value)) × (now (tally .exit) ≡ counted (now (tally .entry)) (trace .state .used) (verdict r)) ⌝ }
 {
     let a = trace.next(&mut *room, value);
-    *tally = counted(*tally, trace, a);
+    let before = *tally;
+    let after = counted(before, trace, a);
+    *tally = after;
     a
 }
 
@@ -71,7 +73,9 @@ pub fn late(trace: Trace, room: &mut [i64], tick: u32, value: i32, tally: &mut T
     ensures { λ r. ⌜ ((r, now (room .exit)) ≡ answered (lateOutcome (trace .state) (now (room .entry)) tick value)) × (now (tally .exit) ≡ counted (now (tally .entry)) (trace .state .used) (verdict r)) ⌝ }
 {
     let a = trace.late(&mut *room, tick, value);
-    *tally = counted(*tally, trace, a);
+    let before = *tally;
+    let after = counted(before, trace, a);
+    *tally = after;
     a
 }
 

@@ -60,6 +60,7 @@ use Rattle.trace.proofs.Trace.next.Symbol as core-def
 use Rattle.trace.proofs.Trace.next.Symbol.{name as #trace·Trace·next}
 use Rattle.trace.proofs.Trace.next.Met as core-thm
 use Rattle.tally.specs.Session.{verdict}
+use Rattle.tally.proofs.Operands.{holds}
 use Rattle.tally.proofs.Counting.{Counted, counted-of, goes-counted, to-counted}
 use Rattle.tally.proofs.counted as counted
 use Rattle.tally.proofs.counted.Symbol as counted-def
@@ -135,13 +136,13 @@ module _ {M : Type 1} (𝓤 : URA M) (H : Heap 𝓤) (A : Atoms 𝓤) (W : Given
         pass1 ! (init ! 16 refl (LL.lawful S.the-type S′.the-laws 𝓤 H A W .typed st _ is-st .0)) $ pass1 ! (init ! 14 refl (tt, (tt, (record { fits = room .0 }, tt)))) $
         pass1 ! (init ! 12 refl (sint-lawful 𝓤 H A W w32 .typed v _ (refl, fits) .0)) $ pass1 ! (init ! 10 refl (tt, tt)) $ pass0 ! $
         -- [_9; …; _8; …; _0; …; the tokens; what the parameters own]
-        assigns ! (addr ! (from ! (fld ! refl (hop ! (look-in ! 14 (sub ! 0 refl (whole !))) (stop !))))) (from ! (stop !)) (init ! 6 refl (tt, tt)) $
-        assigns ! (agg ! (and-then ! (load ! (from ! (stop !)) (look ! 6 refl)) (and-then ! (load ! (from ! (fld ! refl (stop !))) (look-in ! 14 (sub ! 1 refl (whole !)))) (no-more !)))) (from ! (stop !)) (init ! 4 refl (tt, (tt, (record { fits = room .0 }, tt)))) $
+        assigns ! (addr ! (from ! (fld ! refl (hop ! (look-in ! 14 (sub ! 0 refl (whole !))) (stop !))))) (from ! (stop !)) (init ! 2 refl (tt, tt)) $
+        assigns ! (agg ! (and-then ! (holds ! 0 9 refl) (and-then ! (load ! (from ! (fld ! refl (stop !))) (look-in ! 14 (sub ! 1 refl (whole !)))) (no-more !)))) (from ! (stop !)) (init ! 0 refl (tt, (tt, (record { fits = room .0 }, tt)))) $
         move ! (21 ∷ []) $ fsplit ! $ drop ! $ fsplit ! $ move ! (1 ∷ []) $ fsplit ! $ drop ! $ fsplit ! $ move ! (1 ∷ []) $ drop ! $
         move ! (22 ∷ []) $ split ! $ move ! (1 ∷ []) $ split ! $ move ! (2 ∷ 1 ∷ []) $ join ! $
         -- [the room's token; the tally's token; the tally's borrow; the room; _9; …]
         move ! (0 ∷ 3 ∷ []) $ use2 W (raw (Core 𝓤 H A at-mem run .pre to-core)) goes-core $
-        calls-at ! fm (Core 𝓤 H A at-mem run) known-core to-core (and-then ! (load ! (from ! (stop !)) (look ! 19 refl)) (and-then ! (load ! (from ! (stop !)) (look ! 7 refl)) (and-then ! (load ! (from ! (stop !)) (look ! 15 refl)) (no-more !)))) (λ w.
+        calls-at ! fm (Core 𝓤 H A at-mem run) known-core to-core (and-then ! (holds ! 3 9 refl) (and-then ! (holds ! 3 9 refl) (and-then ! (holds ! 3 9 refl) (no-more !)))) (λ w.
         use1 W (later (some (λ (r : Answer). ((‵ (flft κ q) ⊛ ‵ ftrue) ⊛ ‵ (N.the-row .own r (w ∷ []))) ⊛ raw (ensured 𝓤 H A core.ended (core.clauses 𝓤 H A at-mem run) (κ, tt) (st, (x, (v, tt))) tt r)))) (id⊢ 𝓤 _) $ await ! tt $ pick ! (λ r.
         split ! $ move ! (1 ∷ []) $ use1 W (some (λ (zs : Unit {0} × (List ℤ × (Unit {0} × Unit {0}))). ‵ (lasts core.ended (κ, tt) (st, (x, (v, tt))) zs) ⊛ raw (fact 𝓤 (Read r (zs .1 .0))))) (id⊢ 𝓤 _) $ pick ! (λ zs.
         split ! $ move ! (1 ∷ []) $ heard ! (Read r (zs .1 .0)) (λ e. fsplit ! $ drop ! $ fsplit ! $ fsplit ! $ move ! (1 ∷ []) $ feqL ! (λ l.
@@ -152,15 +153,15 @@ module _ {M : Type 1} (𝓤 : URA M) (H : Heap 𝓤) (A : Atoms 𝓤) (W : Given
         opens ! tt T.the-row {h = t} b′ o′ (λ vs. spelt ! T.the-row (Is T.the-row) (shows 𝓤 H A T.the-row) (LL.vals T.the-type T′.the-laws) (LL.tells T.the-type T′.the-laws) fullShare t vs b′ o′ $
         move ! (1 ∷ []) $ peeks ! T.the-row (Is T.the-row) (shows 𝓤 H A T.the-row) t (mach t ∷ []) (λ is-t. drop ! $
         -- [the tally's cell; the open borrow; obs; auth; the answer; the room's token; the last list; _9; …]
-        assigns ! (of-opd ! (load ! (from ! (hop ! (look ! 17 refl) (stop !))) (look-raw ! 0 refl))) (from ! (stop !)) (init ! 7 refl (LL.lawful T.the-type T′.the-laws 𝓤 H A W .typed t _ is-t .0)) $
+        assigns ! (of-opd ! (load ! (from ! (hop ! (look ! 17 refl) (stop !))) (look-raw ! 0 refl))) (from ! (stop !)) (init ! 13 refl (LL.lawful T.the-type T′.the-laws 𝓤 H A W .typed t _ is-t .0)) $
         nothing ! $ use1 W (raw (Counted 𝓤 H A at-mem run .pre (to-counted 𝓤 H A at-mem run t st r (mach t) p w))) (goes-counted 𝓤 H A at-mem run t st r (mach t) p w W is-t is-st is-r) $
-        calls-at ! fm (Counted 𝓤 H A at-mem run) known-counted (to-counted 𝓤 H A at-mem run t st r (mach t) p w) (and-then ! (load ! (from ! (stop !)) (look ! 8 refl)) (and-then ! (load ! (from ! (stop !)) (look ! 24 refl)) (and-then ! (load ! (from ! (stop !)) (look ! 16 refl)) (no-more !)))) (λ w₂.
+        calls-at ! fm (Counted 𝓤 H A at-mem run) known-counted (to-counted 𝓤 H A at-mem run t st r (mach t) p w) (and-then ! (holds ! 8 9 refl) (and-then ! (holds ! 8 9 refl) (and-then ! (holds ! 8 9 refl) (no-more !)))) (λ w₂.
         use1 W (later (some (λ (u : Tally). (‵ ftrue ⊛ ‵ (T.the-row .own u (w₂ ∷ []))) ⊛ raw (ensured 𝓤 H A counted.ended (counted.clauses 𝓤 H A at-mem run) tt (t, (st, (r, tt))) tt u)))) (id⊢ 𝓤 _) $ await ! tt $ pick ! (λ u.
         split ! $ move ! (1 ∷ []) $ use1 W (raw (fact 𝓤 (u ≡ tallied t (st .state .used) (verdict r)))) (counted-of 𝓤 H A at-mem run t st r u) $ heard ! (u ≡ tallied t (st .state .used) (verdict r)) (λ f. split ! $ drop ! $
         -- [what the new tally owns; the tally's cell; the open borrow; obs; auth; the answer; the room's token; the last list; _9; …]
-        peeks ! T.the-row (Is T.the-row) (shows 𝓤 H A T.the-row) u (w₂ ∷ []) (λ is-u. land ! (from ! (stop !)) (init ! 10 refl (LL.lawful T.the-type T′.the-laws 𝓤 H A W .typed u _ is-u .0)) $
-        assigns ! (of-opd ! (load ! (from ! (stop !)) (look ! 10 refl))) (from ! (hop ! (look ! 18 refl) (stop !))) (store-raw ! 1 refl (LL.lawful T.the-type T′.the-laws 𝓤 H A W .typed u _ is-u .0)) $
-        assigns ! (of-opd ! (load ! (from ! (stop !)) (look ! 16 refl))) (from ! (stop !)) (init ! 26 refl (EL.lawful N.the-type N′.the-laws 𝓤 H A W tt .typed r _ is-r .0)) $
+        peeks ! T.the-row (Is T.the-row) (shows 𝓤 H A T.the-row) u (w₂ ∷ []) (λ is-u. land ! (from ! (stop !)) (init ! 12 refl (LL.lawful T.the-type T′.the-laws 𝓤 H A W .typed u _ is-u .0)) $
+        assigns ! (of-opd ! (holds ! 8 9 {v = w₂} refl)) (from ! (hop ! (look ! 18 refl) (stop !))) (store-raw ! 1 refl (LL.lawful T.the-type T′.the-laws 𝓤 H A W .typed u _ is-u .0)) $
+        assigns ! (of-opd ! (holds ! 8 9 refl)) (from ! (stop !)) (init ! 26 refl (EL.lawful N.the-type N′.the-laws 𝓤 H A W tt .typed r _ is-r .0)) $
         move ! (1 ∷ 0 ∷ []) $ closes ! tt T.the-row u (w₂ ∷ []) b′ o′ $
         -- [obs; the tally's borrow; its token; the answer; the room's token; the last list; _9; …]
         returns ! (look ! 24 refl) $ forget ! 6 refl $ forget ! 8 refl $ forget ! 10 refl $ forget ! 12 refl $ forget ! 14 refl $ forget ! 16 refl $ forget ! 18 refl $ forget ! 20 refl $ forget ! 22 refl $ forget ! 24 refl $

@@ -75,12 +75,13 @@ grows c [] = record { each = refl; accepted-grown = λ small. omega arith; refus
 grows c (r ∷ rs) =
     let then : Session = left c (outcome c r) in
     let rest = grows then rs in
+    let once = one-each (outcome c r .0) in
     let one : then .state .used ≤ c .state .used + acceptedOne (outcome c r .0) = brings c r in
     let more : c .state .used + acceptedOne (outcome c r .0) - then .state .used + (then .state .used + acceptedAmong then rs - after then rs .state .used) ≡ c .state .used + (acceptedOne (outcome c r .0) + acceptedAmong then rs) - after then rs .state .used = omega (arith, one, rest .buckets) in
     record {
-      each = omega (arith, one-each (outcome c r .0), rest .each);
-      accepted-grown = λ small. let first = accepted-one c (outcome c r) small in omega (arith, first, rest .accepted-grown (omega (arith, first)));
-      refused-grown = λ small. let first = refused-one c (outcome c r) small in omega (arith, first, rest .refused-grown (omega (arith, first)));
+      each = omega (arith, once, rest .each);
+      accepted-grown = λ small. let first = accepted-one c (outcome c r) small in omega (arith, once, first, rest .accepted-grown (omega (arith, first)));
+      refused-grown = λ small. let first = refused-one c (outcome c r) small in omega (arith, once, first, rest .refused-grown (omega (arith, first)));
       buckets = omega (arith, one, rest .buckets);
       merges-grown = λ small. let first = merges-one c (outcome c r) small in twice (c .tally .merges) _ _ _ first (rest .merges-grown (omega (arith, first))) more;
     }

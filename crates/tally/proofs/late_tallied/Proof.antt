@@ -14,7 +14,7 @@ same-length : tie.Need-same-length
 same-length c = search needs
 
 returns : tie.Need-returns
-returns c = (rw (toZ-ofZ (c .before .before .before .before .fits .value)) at (c .before .before .late .ensures), c .counted .ensures)
+returns c = (rw (← (toZ-ofZ (c .before .before .before .before .fits .value))) (c .before .before .late .ensures), c .counted .ensures)
 
 pub late-tallied-spec : {M : Type 1} → statement M
 late-tallied-spec = tie.close (tie.spec late-requires counted-requires same-length returns)

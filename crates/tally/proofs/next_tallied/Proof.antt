@@ -14,7 +14,7 @@ same-length : tie.Need-same-length
 same-length c = search needs
 
 returns : tie.Need-returns
-returns c = (rw (toZ-ofZ (c .before .before .before .before .fits .value)) at (c .before .before .next .ensures), c .counted .ensures)
+returns c = (rw (← (toZ-ofZ (c .before .before .before .before .fits .value))) (c .before .before .next .ensures), c .counted .ensures)
 
 pub next-tallied-spec : {M : Type 1} → statement M
 next-tallied-spec = tie.close (tie.spec next-requires counted-requires same-length returns)

@@ -9,6 +9,9 @@ use Rattle.rule.specs.declared.State.{State}
 use Rattle.rule.specs.declared.Found.{Found}
 use Rattle.rule.specs.declared.Written.{Written}
 use Rattle.rule.specs.Answers.{number, place}
+use Rattle.rule.specs.Calls.{lateOutcome, loaded, lookupOutcome, nextOutcome, opened, saveOutcome}
+use Rattle.row.specs.Parts.{numbersOutcome}
+use Rattle.trace.specs.Answers.{answered}
 use Rattle.trace.specs.declared.Answer.{Answer}
 use Rattle.ndezulangi.specs.declared.Fields.{Fields}
 use Rattle.ndezulangi.specs.declared.Reply.{Reply}
@@ -59,3 +62,26 @@ telling (Written.Refused r) = record { refusal = number r; place = place r; buck
 -- with the output afterwards
 abbrev pub told : {A : Type 0} → Written × List A → Counted × List A
 told w = (telling (w .0), w .1)
+
+-- ---- what each exported function answers, with the room or the output as it leaves it
+
+abbrev pub openReply : ℕ → ℕ → ℕ → List ℤ → Reply × List ℤ
+openReply kind steps gaps room = replied none (answered (opened (settingsOf kind steps gaps) room))
+
+abbrev pub nextReply : Fields → List ℤ → ℤ → Reply × List ℤ
+nextReply state room value = replied state (answered (nextOutcome (stateOf state) room value))
+
+abbrev pub lateReply : Fields → List ℤ → ℕ → ℤ → Reply × List ℤ
+lateReply state room tick value = replied state (answered (lateOutcome (stateOf state) room tick value))
+
+abbrev pub lookupReply : Fields → List ℤ → ℕ → Shown
+lookupReply state room tick = showing (lookupOutcome (stateOf state) room tick)
+
+abbrev pub rowReply : Fields → List ℤ → List ℤ → Counted × List ℤ
+rowReply state room out = told (numbersOutcome (stateOf state) room out)
+
+abbrev pub saveReply : Fields → List ℤ → List ℕ → Counted × List ℕ
+saveReply state room out = told (saveOutcome (stateOf state) room out)
+
+abbrev pub loadReply : ℕ → ℕ → ℕ → List ℕ → List ℤ → Reply × List ℤ
+loadReply kind steps gaps file room = replied none (answered (loaded (settingsOf kind steps gaps) file room))

@@ -1,10 +1,7 @@
 // The calls for other languages: plain C functions over lent numbers and bytes, the state as plain fields. include/ndezulangi.h is their manual.
 // Each hands on to the call of its name and does nothing of its own.
 ghost use mathlib.Core.Path.{_≡_};
-ghost use Rattle.rule.specs.Calls.{lateOutcome, loaded, lookupOutcome, nextOutcome, opened, saveOutcome};
-ghost use Rattle.row.specs.Parts.{numbersOutcome};
-ghost use Rattle.trace.specs.Answers.{answered};
-ghost use Rattle.ndezulangi.specs.Plain.{fieldsOf, kindOf, none, numberOf, replied, replying, settingsOf, showing, stateOf, telling, told};
+ghost use Rattle.ndezulangi.specs.Plain.{fieldsOf, kindOf, lateReply, loadReply, lookupReply, nextReply, none, numberOf, openReply, replying, rowReply, saveReply, settingsOf, showing, stateOf, telling};
 use rule::Found;
 use rule::Kind;
 use rule::Refusal;
@@ -185,7 +182,7 @@ fn telling(w: Written) -> Counted
 
 #[no_mangle]
 pub extern "C" fn ndz_open(kind: usize, steps: usize, gaps: usize, room: &mut [i64]) -> Reply
-    ensures { λ r. ⌜ (r, now (room .exit)) ≡ replied none (answered (opened (settingsOf kind steps gaps) (now (room .entry)))) ⌝ }
+    ensures { λ r. ⌜ (r, now (room .exit)) ≡ openReply kind steps gaps (now (room .entry)) ⌝ }
 {
     let settings = settings_of(kind, steps, gaps);
     replying(none(), Trace::open(settings, &mut *room))
@@ -193,7 +190,7 @@ pub extern "C" fn ndz_open(kind: usize, steps: usize, gaps: usize, room: &mut [i
 
 #[no_mangle]
 pub extern "C" fn ndz_next(state: Fields, room: &mut [i64], value: i32) -> Reply
-    ensures { λ r. ⌜ (r, now (room .exit)) ≡ replied state (answered (nextOutcome (stateOf state) (now (room .entry)) value)) ⌝ }
+    ensures { λ r. ⌜ (r, now (room .exit)) ≡ nextReply state (now (room .entry)) value ⌝ }
 {
     let trace = trace_of(state);
     replying(state, trace.next(&mut *room, value))
@@ -201,7 +198,7 @@ pub extern "C" fn ndz_next(state: Fields, room: &mut [i64], value: i32) -> Reply
 
 #[no_mangle]
 pub extern "C" fn ndz_late(state: Fields, room: &mut [i64], tick: u32, value: i32) -> Reply
-    ensures { λ r. ⌜ (r, now (room .exit)) ≡ replied state (answered (lateOutcome (stateOf state) (now (room .entry)) tick value)) ⌝ }
+    ensures { λ r. ⌜ (r, now (room .exit)) ≡ lateReply state (now (room .entry)) tick value ⌝ }
 {
     let trace = trace_of(state);
     replying(state, trace.late(&mut *room, tick, value))
@@ -209,7 +206,7 @@ pub extern "C" fn ndz_late(state: Fields, room: &mut [i64], tick: u32, value: i3
 
 #[no_mangle]
 pub extern "C" fn ndz_lookup(state: Fields, room: &[i64], tick: u32) -> Shown
-    ensures { λ r. ⌜ r ≡ showing (lookupOutcome (stateOf state) (now (room .entry)) tick) ⌝ }
+    ensures { λ r. ⌜ r ≡ lookupReply state (now (room .entry)) tick ⌝ }
 {
     let trace = trace_of(state);
     showing(trace.lookup(room, tick))
@@ -218,7 +215,7 @@ pub extern "C" fn ndz_lookup(state: Fields, room: &[i64], tick: u32) -> Shown
 // Four numbers a bucket, as in the room.
 #[no_mangle]
 pub extern "C" fn ndz_row(state: Fields, room: &[i64], out: &mut [i64]) -> Counted
-    ensures { λ r. ⌜ (r, now (out .exit)) ≡ told (numbersOutcome (stateOf state) (now (room .entry)) (now (out .entry))) ⌝ }
+    ensures { λ r. ⌜ (r, now (out .exit)) ≡ rowReply state (now (room .entry)) (now (out .entry)) ⌝ }
 {
     let trace = trace_of(state);
     telling(row::numbers(trace, room, &mut *out))
@@ -226,7 +223,7 @@ pub extern "C" fn ndz_row(state: Fields, room: &[i64], out: &mut [i64]) -> Count
 
 #[no_mangle]
 pub extern "C" fn ndz_save(state: Fields, room: &[i64], out: &mut [u8]) -> Counted
-    ensures { λ r. ⌜ (r, now (out .exit)) ≡ told (saveOutcome (stateOf state) (now (room .entry)) (now (out .entry))) ⌝ }
+    ensures { λ r. ⌜ (r, now (out .exit)) ≡ saveReply state (now (room .entry)) (now (out .entry)) ⌝ }
 {
     let trace = trace_of(state);
     telling(trace.save(room, &mut *out))
@@ -240,7 +237,7 @@ pub extern "C" fn ndz_load(
     file: &[u8],
     room: &mut [i64],
 ) -> Reply
-    ensures { λ r. ⌜ (r, now (room .exit)) ≡ replied none (answered (loaded (settingsOf kind steps gaps) (now (file .entry)) (now (room .entry)))) ⌝ }
+    ensures { λ r. ⌜ (r, now (room .exit)) ≡ loadReply kind steps gaps (now (file .entry)) (now (room .entry)) ⌝ }
 {
     let named = settings_of(kind, steps, gaps);
     replying(none(), Trace::load(named, file, &mut *room))

@@ -130,7 +130,7 @@ known {g} (loads {rs = rs} {s = s} {t = t} {l = l} {m = m} {written = written} {
 -- ---- the picture, as lookup shows it
 
 -- a held tick is one of document 01's
-held-small : (k : Kind) (e tick : ℕ) (t : Table) → Ruled k e t → 1 ≤ holders tick t → tick < ticks
+pub held-small : (k : Kind) (e tick : ℕ) (t : Table) → Ruled k e t → 1 ≤ holders tick t → tick < ticks
 unfolding Ruled holders
 held-small k e tick [] r h = absurd (omega arith)
 held-small k e tick (b ∷ t) r h =

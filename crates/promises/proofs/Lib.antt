@@ -2,3 +2,4 @@
 pub mod Outcomes
 pub mod Keeping
 pub mod Answering
+pub mod Exporting

@@ -2,3 +2,4 @@
 pub mod Answered
 pub mod Reached
 pub mod Demands
+pub mod Exported

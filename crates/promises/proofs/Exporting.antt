@@ -1,0 +1,230 @@
+-- The exported functions keep the demands: each replies what its call answers, and what they reach is what the calls reach.
+use Prim.Native.Nat.{ℕ, _*_, _≤_, _<_}
+use mathlib.Core.Path.{_≡_, refl, sym, ap, _∙_, subst}
+use mathlib.Core.Logic.{_≢_}
+use mathlib.Core.Bool.{Bool, true, false, cond, not}
+use mathlib.Core.List.{List, [], _∷_, _++_, List·Memᴰ}
+use mathlib.Core.Option.{Option, some}
+use native.Mathlib.Omega.{arith}
+use borrow.Author.Tests.{lt-leb}
+use lib.Dec.{leb}
+use lib.IntN.{ℤ}
+use lib.ListN.{length, take}
+use Rattle.rule.specs.declared.Bucket.{Bucket}
+use Rattle.rule.specs.declared.Refusal.{Refusal}
+use Rattle.rule.specs.declared.Refusal.the-variants.{Steps, Gaps, Room, Unsound, Kind, Tick, Length, Record, Runs, Overfull, Taken, Absent, Short, Line}
+use Rattle.rule.specs.declared.Settings.{Settings}
+use Rattle.rule.specs.declared.State.{State}
+use Rattle.rule.specs.declared.Found.{Found}
+use Rattle.rule.specs.declared.Written.{Written}
+use Rattle.rule.specs.Answers.{number, place}
+use Rattle.rule.specs.Bucket.{distance}
+use Rattle.rule.specs.Calls.{Verdict, accepted, found, foundOf, isHeld, kept, late, lateOutcome, loaded, lookupOutcome, nextOutcome, nextVerdict, opened, refuse, refused, saveOutcome}
+use Rattle.rule.specs.Numbers.{recordWidth, slotWidth, ticks}
+use Rattle.rule.specs.Room.{allOf, clauses, sound, stepsGood, tableOf}
+use Rattle.rule.specs.Table.{Table, holders, holding, holds, worst}
+use Rattle.rule.proofs.Whole.{by-test}
+use Rattle.rule.proofs.Tables.{one}
+use Rattle.room.proofs.Placing.{held-counts}
+use Rattle.room.proofs.Sounding.{sound-facts, sound-ordered}
+use Rattle.row.specs.Parts.{numbersOutcome}
+use Rattle.trace.specs.Answers.{answer, answered}
+use Rattle.demands.specs.History.{Reading, arrived}
+use Rattle.ndezulangi.specs.declared.Counted.{Counted}
+use Rattle.ndezulangi.specs.declared.Fields.{Fields}
+use Rattle.ndezulangi.specs.declared.Reply.{Reply}
+use Rattle.ndezulangi.specs.Plain.{fieldsOf, kindOf, lookupReply, none, numberOf, replied, replying, settingsOf, showing, stateOf, telling, told}
+use Rattle.ndezulangi.proofs.SameState.{same-state}
+use Rattle.promises.specs.Answered.{Answered, Row, fileRows, firstOf, lateRows, lookupRows, nextRows, openRows, said, saidFound, saidWritten, writeRows}
+use Rattle.promises.specs.Demands.{Kept, Seen}
+use Rattle.promises.specs.Reached.{Reached}
+use Rattle.promises.specs.Exported.{Called, Counts, ExportedDemand1, Promised, Replies, Shows, Within, firstDue}
+use Rattle.promises.proofs.Answering.{demand1}
+use Rattle.promises.proofs.Keeping.{held-small, keeps}
+use Rattle.promises.proofs.Outcomes.{next-taken, traced-accepted}
+
+-- ---- demand 1
+
+-- refusal and place, zeros where nothing is said
+abbrev saying : Option (ℕ × ℕ) → ℕ × ℕ
+saying Option.none = (0, 0)
+saying (some r) = r
+
+due : (rows : List Row) → firstDue rows ≡ saying (firstOf rows)
+unfolding firstDue firstOf
+due [] = refl
+due (r ∷ rs) = by-test (r .due) (λ h. rw h) (λ h. rw h (due rs))
+
+replies : (back : Fields) (v : Verdict State) (rows : List Row) (before after : List ℤ) → Answered (said v) rows before after → Replies rows back before after (replying back (answer v))
+unfolding said replying answer
+replies back (refused r) rows before after a = record { exactly = ap saying (a .exactly) ∙ sym (due rows); untouched = λ h. (refl, a .untouched (number r, place r) refl) }
+replies back (accepted s) rows before after a = record { exactly = ap saying (a .exactly) ∙ sym (due rows); untouched = λ h. absurd (h refl) }
+
+shows-found : (f : Found) (rows : List Row) → saidFound f ≡ firstOf rows → Shows rows (showing f)
+unfolding saidFound showing
+shows-found (Found.Refused r) rows e = record { exactly = ap saying e ∙ sym (due rows); zeros = λ h. refl }
+shows-found (Found.Level level error least largest) rows e = record { exactly = ap saying e ∙ sym (due rows); zeros = λ h. absurd (h refl) }
+
+counts : {A : Type 0} (w : Written) (rows : List Row) (before after : List A) → Answered (saidWritten w) rows before after → Counts rows before after (telling w)
+unfolding saidWritten telling
+counts (Written.Refused r) rows before after a = record { exactly = ap saying (a .exactly) ∙ sym (due rows); untouched = λ h. (refl, a .untouched (number r, place r) refl) }
+counts (Written.Buckets n) rows before after a = record { exactly = ap saying (a .exactly) ∙ sym (due rows); untouched = λ h. absurd (h refl) }
+
+eight : (back : Fields) (v : Verdict State) → replying back (answer v) .refusal ≡ 8 → said v ≡ some (8, replying back (answer v) .place)
+unfolding said replying answer
+eight back (refused r) e = ap (λ (n : ℕ). some (n, place r)) e
+eight back (accepted s) e = absurd (omega arith)
+
+pub exported-demand1 : ExportedDemand1
+unfolding sound clauses allOf stepsGood
+exported-demand1 = record {
+  opens = λ kind steps gaps l. let g = settingsOf kind steps gaps in replies none (opened g l .0) (openRows g l) l (opened g l .1) (demand1 .opens g l);
+  nexts = λ f l v. let s = stateOf f in replies f (nextOutcome s l v .0) (nextRows s l) l (nextOutcome s l v .1) (demand1 .nexts s l v);
+  lates = λ f l tick v. let s = stateOf f in replies f (lateOutcome s l tick v .0) (lateRows s l tick v) l (lateOutcome s l tick v .1) (demand1 .lates s l tick v);
+  lookups = λ f l tick. let s = stateOf f in shows-found (lookupOutcome s l tick) (lookupRows s l tick) (demand1 .lookups s l tick);
+  rows = λ f l out. let s = stateOf f in counts (numbersOutcome s l out .0) (writeRows s l (length out) (slotWidth * f .used)) out (numbersOutcome s l out .1) (demand1 .numbers s l out);
+  saves = λ f l out. let s = stateOf f in counts (saveOutcome s l out .0) (writeRows s l (length out) (recordWidth * f .used)) out (saveOutcome s l out .1) (demand1 .saves s l out);
+  loads = λ kind steps gaps file l. let g = settingsOf kind steps gaps in replies none (loaded g file l .0) (openRows g l ++ fileRows g file) l (loaded g file l .1) (demand1 .loads g file l);
+  places = λ kind steps gaps file l e. let g = settingsOf kind steps gaps in demand1 .places g file l (replying none (answer (loaded g file l .0)) .place) (eight none (loaded g file l .0) e);
+  unusable = λ l. refl;
+}
+
+-- ---- a reply, taken apart by its refusal
+
+numbered : (r : Refusal) → 1 ≤ number r
+numbered Steps = omega arith
+numbered Gaps = omega arith
+numbered Room = omega arith
+numbered Unsound = omega arith
+numbered Kind = omega arith
+numbered Tick = omega arith
+numbered Length = omega arith
+numbered (Record i) = omega arith
+numbered Runs = omega arith
+numbered Overfull = omega arith
+numbered Taken = omega arith
+numbered Absent = omega arith
+numbered Short = omega arith
+numbered Line = omega arith
+
+module _ (back : Fields) where
+  -- refusal 0: the call was accepted, and the reply's state is the call's
+  record Accepts (o : Verdict State × List ℤ) (r : Reply) (m : List ℤ) : Type 0 where
+    outcome : o ≡ (accepted (stateOf (r .state)), m)
+    plain : fieldsOf (stateOf (r .state)) ≡ r .state
+
+  accepts : (o : Verdict State × List ℤ) {r : Reply} {m : List ℤ} → replied back (answered o) ≡ (r, m) → r .refusal ≡ 0 → Accepts o r m
+  unfolding replying answer
+  accepts (refused q, l) e z = absurd (omega (arith, numbered q, ap (λ (x : Reply × List ℤ). x .0 .refusal) e))
+  accepts (accepted s, l) e z = record {
+    outcome = ap (λ (x : State). (accepted x, l)) (sym (same-state s)) ∙ ap (λ (x : Reply × List ℤ). (accepted (stateOf (x .0 .state)), x .1)) e;
+    plain = subst (λ (x : Reply × List ℤ). fieldsOf (stateOf (x .0 .state)) ≡ x .0 .state) e (ap fieldsOf (same-state s));
+  }
+
+  -- another: it was refused, and the state is the one handed back
+  record Refuses (o : Verdict State × List ℤ) (r : Reply) (m : List ℤ) : Type 0 where
+    why : Refusal
+    outcome : o ≡ (refused why, m)
+    state : r .state ≡ back
+
+  refuses : (o : Verdict State × List ℤ) {r : Reply} {m : List ℤ} → replied back (answered o) ≡ (r, m) → r .refusal ≢ 0 → Refuses o r m
+  unfolding replying answer
+  refuses (refused q, l) e n = record { why = q; outcome = ap (λ (x : Reply × List ℤ). (refused q, x .1)) e; state = sym (ap (λ (x : Reply × List ℤ). x .0 .state) e) }
+  refuses (accepted s, l) e n = absurd (n (sym (ap (λ (x : Reply × List ℤ). x .0 .refusal) e)))
+
+-- the same of a reply that counts what was written
+writes : (o : Written × List ℕ) {c : Counted} {written : List ℕ} → told o ≡ (c, written) → c .refusal ≡ 0 → o ≡ (Written.Buckets (c .buckets), written)
+unfolding telling
+writes (Written.Refused q, l) e z = absurd (omega (arith, numbered q, ap (λ (x : Counted × List ℕ). x .0 .refusal) e))
+writes (Written.Buckets n, l) e z = ap (λ (x : Counted × List ℕ). (Written.Buckets (x .0 .buckets), x .1)) e
+
+-- ---- what the exported functions reach
+
+module _ {kind steps gaps : ℕ} where
+  -- with the state that the caller has, which is one of the fields' own
+  reaches : {rs : List Reading} {f : Fields} {l : List ℤ} → Called kind steps gaps rs f l → Reached (settingsOf kind steps gaps) rs (stateOf f) l × (fieldsOf (stateOf f) ≡ f)
+  reaches (Called.opens l e z) =
+      let a = accepts none (opened (settingsOf kind steps gaps) l) e z in
+      (Reached.opens l (a .outcome), a .plain)
+  reaches (Called.nexts {rs = rs} {f = f} {l = l} {m = m} {r = r} v range c e z) =
+      let s : State = stateOf f in
+      let a = accepts f (nextOutcome s l v) e z in
+      let w = traced-accepted (s .settings) l (nextVerdict s l v) (stateOf (r .state)) m (a .outcome) in
+      let k = keeps (reaches c .0) in
+      let in-order : late (kindOf kind) ≡ false = sym (ap (λ (x : Settings). late (x .kind)) (k .named)) ∙ next-taken s l v (w .table) (w .verdict) .kind in
+      (subst (λ (tick : ℕ). Reached (settingsOf kind steps gaps) (record { tick = tick; value = v } ∷ rs) (stateOf (r .state)) m) (k .next in-order) (Reached.nexts v range (reaches c .0) (a .outcome)), a .plain)
+  reaches (Called.lates {f = f} {l = l} tick v range c e z) =
+      let a = accepts f (lateOutcome (stateOf f) l tick v) e z in
+      (Reached.lates tick v range (reaches c .0) (a .outcome), a .plain)
+  reaches (Called.next-refused {rs = rs} {f = f} {l = l} {m = m} v c e n) =
+      let a = refuses f (nextOutcome (stateOf f) l v) e n in
+      subst (λ (x : Fields). Reached (settingsOf kind steps gaps) rs (stateOf x) m × (fieldsOf (stateOf x) ≡ x)) (sym (a .state)) (Reached.next-refused v (reaches c .0) (a .outcome), reaches c .1)
+  reaches (Called.late-refused {rs = rs} {f = f} {l = l} {m = m} tick v c e n) =
+      let a = refuses f (lateOutcome (stateOf f) l tick v) e n in
+      subst (λ (x : Fields). Reached (settingsOf kind steps gaps) rs (stateOf x) m × (fieldsOf (stateOf x) ≡ x)) (sym (a .state)) (Reached.late-refused tick v (reaches c .0) (a .outcome), reaches c .1)
+  reaches (Called.open-refused {l = l} k b g c e n) =
+      (Reached.open-refused (settingsOf k b g) (reaches c .0) (refuses none (opened (settingsOf k b g) l) e n .outcome), reaches c .1)
+  reaches (Called.load-refused {l = l} k b g file c e n) =
+      (Reached.load-refused (settingsOf k b g) file (reaches c .0) (refuses none (loaded (settingsOf k b g) file l) e n .outcome), reaches c .1)
+  reaches (Called.loads {f = f} {l = l} {c = q} {written = written} out room k b g same c saves z e y) =
+      let a = accepts none (loaded (settingsOf k b g) (take (recordWidth * q .buckets) written) room) e y in
+      (Reached.loads out room (settingsOf k b g) same (reaches c .0) (writes (saveOutcome (stateOf f) l out) saves z) (a .outcome), a .plain)
+
+-- ---- what ndz_lookup shows of it
+
+-- the error shown is at most the worst
+found-error : (tick : ℕ) (t : Table) → showing (found (holding tick t)) .error ≤ worst t
+unfolding showing found holding worst
+found-error tick [] = omega arith
+found-error tick (b ∷ t) = by-test (holds tick b) (λ h. rw h (omega arith)) (λ h. rw h (omega (arith, found-error tick t)))
+
+shown-error : (f : Fields) (l : List ℤ) (tick : ℕ) → lookupReply f l tick .error ≤ worst (tableOf (stateOf f) l)
+unfolding showing lookupOutcome foundOf refuse
+shown-error f l tick =
+    by-test (sound (stateOf f) l)
+    (λ fit. by-test (leb ticks tick) (λ h. rw (fit, h) (omega arith)) (λ h. rw (fit, h) (found-error tick (tableOf (stateOf f) l))))
+    (λ fit. rw fit (omega arith))
+
+looked : (f : Fields) (l : List ℤ) (tick : ℕ) (here : Bool) → sound (stateOf f) l ≡ true → isHeld (holding tick (tableOf (stateOf f) l)) ≡ here → (here ≡ true → tick < ticks)
+    → lookupReply f l tick .refusal ≡ cond here 0 (cond (leb ticks tick) 6 12)
+unfolding firstDue
+looked f l tick true fit h small = ap (λ (x : ℕ × ℕ). x .0) (exported-demand1 .lookups f l tick .exactly) ∙ rw (fit, lt-leb ticks tick (small refl), h)
+looked f l tick false fit h small = ap (λ (x : ℕ × ℕ). x .0) (exported-demand1 .lookups f l tick .exactly) ∙ by-test (leb ticks tick) (λ g. rw (fit, g)) (λ g. rw (fit, g, h))
+
+same-test : (c d : Bool) → one c ≡ one d → c ≡ d
+same-test true true e = refl
+same-test true false e = absurd (omega arith)
+same-test false true e = absurd (omega arith)
+same-test false false e = refl
+
+-- ---- demands 2 and 3
+
+pub promises : {kind steps gaps : ℕ} {rs : List Reading} {f : Fields} {l : List ℤ} → Called kind steps gaps rs f l → Promised kind steps gaps rs f l
+unfolding showing
+promises {rs = rs} {f = f} {l = l} c =
+    let plain : fieldsOf (stateOf f) ≡ f = reaches c .1 in
+    let k = keeps (reaches c .0) in
+    let t : Table = tableOf (stateOf f) l in
+    let facts = sound-facts (stateOf f) l (k .fit) in
+    record {
+      keeps = k;
+      plain = plain;
+      kind-named = sym (ap (λ (x : Fields). x .kind) plain) ∙ ap (λ (x : Settings). numberOf (x .kind)) (k .named);
+      steps-named = ap (λ (x : Settings). x .steps) (k .named);
+      gaps-named = ap (λ (x : Settings). x .gaps) (k .named);
+      size = k .size;
+      runs = k .runs;
+      readings = k .readings;
+      picture = λ curve E few near r m.
+          let p = k .picture curve E few near in
+          let seen = p .0 r m in
+          record {
+            shown = ap (λ (x : Found). showing x .refusal) (seen .answer);
+            near = subst (λ (x : Found). distance (r .value) (showing x .level) ≤ E) (sym (seen .answer)) (seen .near);
+            error = omega (arith, shown-error f l (r .tick), p .1);
+          };
+      covers = λ tick.
+          looked f l tick (arrived tick rs) (k .fit)
+          (same-test (isHeld (holding tick t)) (arrived tick rs) (sym (held-counts 0 tick t (sound-ordered (stateOf f) l facts)) ∙ k .covers tick))
+          (λ here. held-small (kindOf (f .kind)) 0 tick t (facts .rules) (omega (arith, k .covers tick, ap one here)));
+    }

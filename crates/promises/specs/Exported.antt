@@ -1,0 +1,115 @@
+-- The demands of the exported functions, for a stranger who calls them from C: what each answers and leaves, and what any sequence of them keeps.
+use Prim.Native.Nat.{ℕ, _*_, _≤_}
+use mathlib.Core.Path.{_≡_}
+use mathlib.Core.Logic.{_≢_}
+use mathlib.Core.Bool.{true, false, cond}
+use mathlib.Core.List.{List, [], _∷_, _++_, List·Memᴰ}
+use lib.Dec.{leb}
+use lib.IntN.{ℤ, pos}
+use lib.ListN.{length, take}
+use Rattle.rule.specs.Bucket.{distance}
+use Rattle.rule.specs.Calls.{gapsKept, kept}
+use Rattle.rule.specs.Files.{FirstBroken}
+use Rattle.rule.specs.Numbers.{recordWidth, slotWidth, ticks}
+use Rattle.rule.specs.Room.{signed, sound}
+use Rattle.rule.specs.Table.{limit}
+use Rattle.demands.specs.Curve as curve
+use Rattle.demands.specs.Curve.{Curve}
+use Rattle.demands.specs.History.{Reading, arrived, runsOf}
+use Rattle.demands.specs.Served.{Near}
+use Rattle.ndezulangi.specs.declared.Counted.{Counted}
+use Rattle.ndezulangi.specs.declared.Fields.{Fields}
+use Rattle.ndezulangi.specs.declared.Reply.{Reply}
+use Rattle.ndezulangi.specs.declared.Shown.{Shown}
+use Rattle.ndezulangi.specs.Plain.{fieldsOf, kindOf, lateReply, loadReply, lookupReply, nextReply, none, numberOf, openReply, rowReply, saveReply, settingsOf, stateOf}
+use Rattle.promises.specs.Answered.{Row, fileRows, lateRows, lookupRows, nextRows, openRows, writeRows}
+use Rattle.promises.specs.Demands.{Kept}
+
+-- ---- demand 1
+
+-- refusal and place: those of the first row that is due, zeros where none is
+unfoldable pub firstDue : List Row → ℕ × ℕ
+firstDue [] = (0, 0)
+firstDue (r ∷ rs) = cond (r .due) (r .number, r .place) (firstDue rs)
+
+-- of open, load and the two readings; refused, the state handed back is the one named, and the room is as it was
+pub record Replies (rows : List Row) (back : Fields) (before after : List ℤ) (r : Reply) : Type 0 where
+  pub exactly : (r .refusal, r .place) ≡ firstDue rows
+  pub untouched : r .refusal ≢ 0 → (r .state ≡ back) × (after ≡ before)
+
+-- of lookup, which lends nothing to be written; refused, its other numbers are 0
+pub record Shows (rows : List Row) (s : Shown) : Type 0 where
+  pub exactly : (s .refusal, s .place) ≡ firstDue rows
+  pub zeros : s .refusal ≢ 0 → s ≡ record { refusal = s .refusal; place = s .place; level = pos 0; error = 0; least = pos 0; largest = pos 0 }
+
+-- of row and save; refused, no bucket is told, and the output is as it was
+pub record Counts {A : Type 0} (rows : List Row) (before after : List A) (c : Counted) : Type 0 where
+  pub exactly : (c .refusal, c .place) ≡ firstDue rows
+  pub untouched : c .refusal ≢ 0 → (c .buckets ≡ 0) × (after ≡ before)
+
+pub record ExportedDemand1 : Type 0 where
+  pub opens : (kind steps gaps : ℕ) (l : List ℤ) → let o = openReply kind steps gaps l in Replies (openRows (settingsOf kind steps gaps) l) none l (o .1) (o .0)
+  pub nexts : (f : Fields) (l : List ℤ) (v : ℤ) → let o = nextReply f l v in Replies (nextRows (stateOf f) l) f l (o .1) (o .0)
+  pub lates : (f : Fields) (l : List ℤ) (tick : ℕ) (v : ℤ) → let o = lateReply f l tick v in Replies (lateRows (stateOf f) l tick v) f l (o .1) (o .0)
+  pub lookups : (f : Fields) (l : List ℤ) (tick : ℕ) → Shows (lookupRows (stateOf f) l tick) (lookupReply f l tick)
+  -- four numbers a bucket
+  pub rows : (f : Fields) (l : List ℤ) (out : List ℤ) → let o = rowReply f l out in Counts (writeRows (stateOf f) l (length out) (slotWidth * f .used)) out (o .1) (o .0)
+  -- sixteen bytes a bucket
+  pub saves : (f : Fields) (l : List ℤ) (out : List ℕ) → let o = saveReply f l out in Counts (writeRows (stateOf f) l (length out) (recordWidth * f .used)) out (o .1) (o .0)
+  pub loads : (kind steps gaps : ℕ) (file : List ℕ) (l : List ℤ) → let o = loadReply kind steps gaps file l in
+      Replies (openRows (settingsOf kind steps gaps) l ++ fileRows (settingsOf kind steps gaps) file) none l (o .1) (o .0)
+  -- 8: the record at its place is the file's, it breaks a rule, and all before it meet them
+  pub places : (kind steps gaps : ℕ) (file : List ℕ) (l : List ℤ) → let r = loadReply kind steps gaps file l .0 in r .refusal ≡ 8 → FirstBroken (kindOf kind) file (r .place)
+  -- the zeros that a refused open or load hands back are sound with no room: each call that is given a state refuses them by 4
+  pub unusable : (l : List ℤ) → sound (stateOf none) l ≡ false
+
+-- ---- demands 2 and 3
+
+-- What a caller can reach from ndz_open with the numbers kind, steps and gaps, each call getting the state and the room as the last one left them:
+-- the caller has the state f, and the room holds l, after the accepted readings rs, newest first. Lookup, row and save write neither.
+pub data Called (kind steps gaps : ℕ) : List Reading → Fields → List ℤ → Type 0 where
+  -- opened empty, in any room
+  opens : {r : Reply} {m : List ℤ} (l : List ℤ) → openReply kind steps gaps l ≡ (r, m) → r .refusal ≡ 0 → Called kind steps gaps [] (r .state) m
+  -- an accepted reading, any signed 32-bit number: in order they take the ticks 0, 1, 2 and so on
+  nexts : {rs : List Reading} {f : Fields} {l m : List ℤ} {r : Reply} (v : ℤ) → signed v ≡ true → Called kind steps gaps rs f l → nextReply f l v ≡ (r, m) → r .refusal ≡ 0
+      → Called kind steps gaps (record { tick = length rs; value = v } ∷ rs) (r .state) m
+  lates : {rs : List Reading} {f : Fields} {l m : List ℤ} {r : Reply} (tick : ℕ) (v : ℤ) → signed v ≡ true → Called kind steps gaps rs f l → lateReply f l tick v ≡ (r, m) → r .refusal ≡ 0
+      → Called kind steps gaps (record { tick = tick; value = v } ∷ rs) (r .state) m
+  -- a refused reading: the caller goes on with the state that it handed back
+  next-refused : {rs : List Reading} {f : Fields} {l m : List ℤ} {r : Reply} (v : ℤ) → Called kind steps gaps rs f l → nextReply f l v ≡ (r, m) → r .refusal ≢ 0
+      → Called kind steps gaps rs (r .state) m
+  late-refused : {rs : List Reading} {f : Fields} {l m : List ℤ} {r : Reply} (tick : ℕ) (v : ℤ) → Called kind steps gaps rs f l → lateReply f l tick v ≡ (r, m) → r .refusal ≢ 0
+      → Called kind steps gaps rs (r .state) m
+  -- a refused open or load, by any numbers and bytes, lent the room that holds the trace: the caller goes on with the state of before
+  open-refused : {rs : List Reading} {f : Fields} {l m : List ℤ} {r : Reply} (k b g : ℕ) → Called kind steps gaps rs f l → openReply k b g l ≡ (r, m) → r .refusal ≢ 0
+      → Called kind steps gaps rs f m
+  load-refused : {rs : List Reading} {f : Fields} {l m : List ℤ} {r : Reply} (k b g : ℕ) (file : List ℕ) → Called kind steps gaps rs f l → loadReply k b g file l ≡ (r, m) → r .refusal ≢ 0
+      → Called kind steps gaps rs f m
+  -- saved into any output, and the bytes that were written loaded into any room by the same numbers: late any kind but 0 is the same, and in order any gaps
+  loads : {rs : List Reading} {f : Fields} {l m : List ℤ} {c : Counted} {written : List ℕ} {r : Reply} (out : List ℕ) (room : List ℤ) (k b g : ℕ)
+      → kept (settingsOf k b g) ≡ kept (settingsOf kind steps gaps) → Called kind steps gaps rs f l → saveReply f l out ≡ (c, written) → c .refusal ≡ 0
+      → loadReply k b g (take (recordWidth * c .buckets) written) room ≡ (r, m) → r .refusal ≡ 0 → Called kind steps gaps rs (r .state) m
+
+-- ndz_lookup at the reading's tick is not refused: its level is within E of the reading, and its error is at most E
+pub record Within (E : ℕ) (f : Fields) (l : List ℤ) (r : Reading) : Type 0 where
+  pub shown : lookupReply f l (r .tick) .refusal ≡ 0
+  pub near : distance (r .value) (lookupReply f l (r .tick) .level) ≤ E
+  pub error : lookupReply f l (r .tick) .error ≤ E
+
+pub record Promised (kind steps gaps : ℕ) (rs : List Reading) (f : Fields) (l : List ℤ) : Type 0 where
+  -- demands 2 and 3 of the state that the fields say
+  pub keeps : Kept (settingsOf kind steps gaps) rs (stateOf f) l
+  -- they say no more than the state
+  pub plain : fieldsOf (stateOf f) ≡ f
+  -- the numbers named at the opening, kind 1 for any late one and K in order kept as 0
+  pub kind-named : f .kind ≡ numberOf (kindOf kind)
+  pub steps-named : f .steps ≡ steps
+  pub gaps-named : f .gaps ≡ gapsKept (kindOf kind) gaps
+  -- the slots in use, the unbroken runs and the readings
+  pub size : f .used ≤ limit (settingsOf kind steps gaps) (runsOf rs)
+  pub runs : f .runs ≡ runsOf rs
+  pub readings : f .readings ≡ length rs
+  -- demand 3: against every curve of at most as many flat steps as named, by ndz_lookup itself
+  pub picture : (c : Curve) (E : ℕ) → curve.steps c ≤ steps → Near E c rs → (r : Reading) → List·Memᴰ r rs → Within E f l r
+  -- ndz_lookup shows exactly the ticks of the accepted readings: another is refused by 12, one above the last tick by 6
+  pub covers : (tick : ℕ) → lookupReply f l tick .refusal ≡ cond (arrived tick rs) 0 (cond (leb ticks tick) 6 12)

@@ -2,15 +2,14 @@
 use Prim.Native.Nat.{ℕ, _*_, _≤_, _<_}
 use mathlib.Core.Path.{_≡_, refl, sym, ap, _∙_, subst}
 use mathlib.Core.Logic.{_≢_}
-use mathlib.Core.Bool.{Bool, true, false, cond, not}
-use mathlib.Core.List.{List, [], _∷_, _++_, List·Memᴰ}
+use mathlib.Core.Bool.{Bool, true, false, cond}
+use mathlib.Core.List.{List, [], _∷_, _++_}
 use mathlib.Core.Option.{Option, some}
 use native.Mathlib.Omega.{arith}
-use borrow.Author.Tests.{lt-leb}
+use borrow.Author.Tests.{le-ltb, lt-leb}
 use lib.Dec.{leb}
 use lib.IntN.{ℤ}
-use lib.ListN.{length, take}
-use Rattle.rule.specs.declared.Bucket.{Bucket}
+use lib.ListN.{drop, length, take}
 use Rattle.rule.specs.declared.Refusal.{Refusal}
 use Rattle.rule.specs.declared.Refusal.the-variants.{Steps, Gaps, Room, Unsound, Kind, Tick, Length, Record, Runs, Overfull, Taken, Absent, Short, Line}
 use Rattle.rule.specs.declared.Settings.{Settings}
@@ -19,16 +18,20 @@ use Rattle.rule.specs.declared.Found.{Found}
 use Rattle.rule.specs.declared.Written.{Written}
 use Rattle.rule.specs.Answers.{number, place}
 use Rattle.rule.specs.Bucket.{distance}
-use Rattle.rule.specs.Calls.{Verdict, accepted, found, foundOf, isHeld, kept, late, lateOutcome, loaded, lookupOutcome, nextOutcome, nextVerdict, opened, refuse, refused, saveOutcome}
+use Rattle.rule.specs.Bytes.{saved}
+use Rattle.rule.specs.Calls.{Verdict, accepted, found, foundOf, isHeld, kept, late, lateOutcome, lateVerdict, loaded, lookupOutcome, nextOutcome, nextVerdict, opened, refuse, refused, saveOutcome, traced, writeVerdict, wrote}
 use Rattle.rule.specs.Numbers.{recordWidth, slotWidth, ticks}
-use Rattle.rule.specs.Room.{allOf, clauses, sound, stepsGood, tableOf}
-use Rattle.rule.specs.Table.{Table, holders, holding, holds, worst}
+use Rattle.rule.specs.Room.{allOf, clauses, flat, sound, stepsGood, tableOf}
+use Rattle.rule.specs.Table.{Table, holding, holds, needed, worst}
 use Rattle.rule.proofs.Whole.{by-test}
 use Rattle.rule.proofs.Tables.{one}
+use Rattle.record.proofs.RoundTrip.{length-saved}
+use Rattle.slots.proofs.Laying.{length-flat, length-slots}
 use Rattle.room.proofs.Placing.{held-counts}
 use Rattle.room.proofs.Sounding.{sound-facts, sound-ordered}
 use Rattle.row.specs.Parts.{numbersOutcome}
 use Rattle.trace.specs.Answers.{answer, answered}
+use Rattle.trace.proofs.RoundTrips.{loaded-saved, saved-loaded}
 use Rattle.demands.specs.History.{Reading, arrived}
 use Rattle.ndezulangi.specs.declared.Counted.{Counted}
 use Rattle.ndezulangi.specs.declared.Fields.{Fields}
@@ -36,11 +39,10 @@ use Rattle.ndezulangi.specs.declared.Reply.{Reply}
 use Rattle.ndezulangi.specs.Plain.{fieldsOf, kindOf, lookupReply, none, numberOf, replied, replying, settingsOf, showing, stateOf, telling, told}
 use Rattle.ndezulangi.proofs.SameState.{same-state}
 use Rattle.promises.specs.Answered.{Answered, Row, fileRows, firstOf, lateRows, lookupRows, nextRows, openRows, said, saidFound, saidWritten, writeRows}
-use Rattle.promises.specs.Demands.{Kept, Seen}
 use Rattle.promises.specs.Reached.{Reached}
-use Rattle.promises.specs.Exported.{Called, Counts, ExportedDemand1, Promised, Replies, Shows, Within, firstDue}
+use Rattle.promises.specs.Exported.{Called, Counts, ExportedDemand1, ExportedDemand2, Promised, Replies, Shows, firstDue, wroteAll}
 use Rattle.promises.proofs.Answering.{demand1}
-use Rattle.promises.proofs.Keeping.{held-small, keeps}
+use Rattle.promises.proofs.Keeping.{held-small, keeps, kept-twice, loaded-kept}
 use Rattle.promises.proofs.Outcomes.{next-taken, traced-accepted}
 
 -- ---- demand 1
@@ -76,7 +78,7 @@ eight back (refused r) e = ap (λ (n : ℕ). some (n, place r)) e
 eight back (accepted s) e = absurd (omega arith)
 
 pub exported-demand1 : ExportedDemand1
-unfolding sound clauses allOf stepsGood
+unfolding sound clauses allOf stepsGood nextVerdict lateVerdict lookupOutcome foundOf writeVerdict refuse traced wrote answer replying showing telling
 exported-demand1 = record {
   opens = λ kind steps gaps l. let g = settingsOf kind steps gaps in replies none (opened g l .0) (openRows g l) l (opened g l .1) (demand1 .opens g l);
   nexts = λ f l v. let s = stateOf f in replies f (nextOutcome s l v .0) (nextRows s l) l (nextOutcome s l v .1) (demand1 .nexts s l v);
@@ -86,7 +88,8 @@ exported-demand1 = record {
   saves = λ f l out. let s = stateOf f in counts (saveOutcome s l out .0) (writeRows s l (length out) (recordWidth * f .used)) out (saveOutcome s l out .1) (demand1 .saves s l out);
   loads = λ kind steps gaps file l. let g = settingsOf kind steps gaps in replies none (loaded g file l .0) (openRows g l ++ fileRows g file) l (loaded g file l .1) (demand1 .loads g file l);
   places = λ kind steps gaps file l e. let g = settingsOf kind steps gaps in demand1 .places g file l (replying none (answer (loaded g file l .0)) .place) (eight none (loaded g file l .0) e);
-  unusable = λ l. refl;
+  unsound = λ l. refl;
+  unusable = λ l tick v out bytes. refl;
 }
 
 -- ---- a reply, taken apart by its refusal
@@ -191,6 +194,13 @@ unfolding firstDue
 looked f l tick true fit h small = ap (λ (x : ℕ × ℕ). x .0) (exported-demand1 .lookups f l tick .exactly) ∙ rw (fit, lt-leb ticks tick (small refl), h)
 looked f l tick false fit h small = ap (λ (x : ℕ × ℕ). x .0) (exported-demand1 .lookups f l tick .exactly) ∙ by-test (leb ticks tick) (λ g. rw (fit, g)) (λ g. rw (fit, g, h))
 
+-- ---- what ndz_row and ndz_save write of it
+
+wrote-all : {A : Type 0} (form : Table → List A) (width : ℕ) (f : Fields) (l : List ℤ) (out : List A) → ((t : Table) → length (form t) ≡ width * length t) → sound (stateOf f) l ≡ true → width * f .used ≤ length out
+    → told (wrote form out (writeVerdict (stateOf f) l (width * f .used) (length out))) ≡ (wroteAll (f .used), form (tableOf (stateOf f) l) ++ drop (width * f .used) out)
+unfolding writeVerdict refuse wrote telling
+wrote-all form width f l out wide fit h = rw (fit, le-ltb (length out) (width * f .used) h, wide (tableOf (stateOf f) l), length-slots l 0 (f .used))
+
 same-test : (c d : Bool) → one c ≡ one d → c ≡ d
 same-test true true e = refl
 same-test true false e = absurd (omega arith)
@@ -200,8 +210,8 @@ same-test false false e = refl
 -- ---- demands 2 and 3
 
 pub promises : {kind steps gaps : ℕ} {rs : List Reading} {f : Fields} {l : List ℤ} → Called kind steps gaps rs f l → Promised kind steps gaps rs f l
-unfolding showing
-promises {rs = rs} {f = f} {l = l} c =
+unfolding showing replying answer
+promises {kind} {steps} {gaps} {rs} {f} {l} c =
     let plain : fieldsOf (stateOf f) ≡ f = reaches c .1 in
     let k = keeps (reaches c .0) in
     let t : Table = tableOf (stateOf f) l in
@@ -215,6 +225,14 @@ promises {rs = rs} {f = f} {l = l} c =
       size = k .size;
       runs = k .runs;
       readings = k .readings;
+      row = λ out long. wrote-all flat slotWidth f l out length-flat (k .fit) long ∙ ap (λ (x : Table). (wroteAll (f .used), flat x ++ drop (slotWidth * f .used) out)) (k .buckets);
+      save = λ out long. wrote-all saved recordWidth f l out length-saved (k .fit) long ∙ ap (λ (x : Table). (wroteAll (f .used), saved x ++ drop (recordWidth * f .used) out)) (k .buckets);
+      load = λ n b q room same long.
+          let h : Settings = settingsOf n b q in
+          let bytes : List ℕ = saved t in
+          ap (λ (x : Table). replying none (answer (loaded h (saved x) room .0))) (sym (k .buckets))
+          ∙ ap (λ (x : Verdict State × List ℤ). replying none (answer (x .0))) (loaded-kept (stateOf f .settings) h bytes room (same ∙ sym (kept-twice (settingsOf kind steps gaps)) ∙ ap kept (sym (k .named))) ∙ saved-loaded (stateOf f) l room (k .fit) (subst (λ (x : Settings). slotWidth * needed x ≤ length room) (sym (k .named)) long))
+          ∙ ap (λ (x : Fields). record { refusal = 0; place = 0; state = x }) plain;
       picture = λ curve E few near r m.
           let p = k .picture curve E few near in
           let seen = p .0 r m in
@@ -228,3 +246,12 @@ promises {rs = rs} {f = f} {l = l} c =
           (same-test (isHeld (holding tick t)) (arrived tick rs) (sym (held-counts 0 tick t (sound-ordered (stateOf f) l facts)) ∙ k .covers tick))
           (λ here. held-small (kindOf (f .kind)) 0 tick t (facts .rules) (omega (arith, k .covers tick, ap one here)));
     }
+
+pub exported-demand2 : ExportedDemand2
+unfolding telling
+exported-demand2 = record {
+  same-bytes = λ kind steps gaps file out l known long z.
+      let h : Settings = settingsOf kind steps gaps in
+      let a = accepts none (loaded h file l) {r = replying none (answer (loaded h file l .0))} {m = loaded h file l .1} refl z in
+      ap told (loaded-saved h file l (stateOf (replying none (answer (loaded h file l .0)) .state)) out known (ap (λ (x : Verdict State × List ℤ). x .0) (a .outcome)) long);
+}

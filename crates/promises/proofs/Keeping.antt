@@ -66,10 +66,10 @@ unfolding gapsKept
 twice InOrder gaps = refl
 twice Late gaps = refl
 
-kept-twice : (g : Settings) → kept (kept g) ≡ kept g
+pub kept-twice : (g : Settings) → kept (kept g) ≡ kept g
 kept-twice g = λ i. record { kind = g .kind; steps = g .steps; gaps = twice (g .kind) (g .gaps) i }
 
-loaded-kept : (g h : Settings) (file : List ℕ) (room : List ℤ) → kept h ≡ kept g → loaded h file room ≡ loaded g file room
+pub loaded-kept : (g h : Settings) (file : List ℕ) (room : List ℤ) → kept h ≡ kept g → loaded h file room ≡ loaded g file room
 loaded-kept g h file room e = ap (λ (k : Settings). traced k room (loadVerdict k file room)) e
 
 module _ {g : Settings} {rs : List Reading} {s : State} {l : List ℤ} (k : Known g rs s l) (r : Reading) (t : State) (m : List ℤ) where

@@ -1,21 +1,23 @@
 -- The demands of the exported functions, for a stranger who calls them from C: what each answers and leaves, and what any sequence of them keeps.
-use Prim.Native.Nat.{ℕ, _*_, _≤_}
+use Prim.Native.Nat.{ℕ, _*_, _/_, _≤_}
 use mathlib.Core.Path.{_≡_}
 use mathlib.Core.Logic.{_≢_}
 use mathlib.Core.Bool.{true, false, cond}
 use mathlib.Core.List.{List, [], _∷_, _++_, List·Memᴰ}
 use lib.Dec.{leb}
 use lib.IntN.{ℤ, pos}
-use lib.ListN.{length, take}
+use lib.ListN.{drop, length, take}
 use Rattle.rule.specs.Bucket.{distance}
+use Rattle.rule.specs.Bytes.{saved}
 use Rattle.rule.specs.Calls.{gapsKept, kept}
 use Rattle.rule.specs.Files.{FirstBroken}
 use Rattle.rule.specs.Numbers.{recordWidth, slotWidth, ticks}
-use Rattle.rule.specs.Room.{signed, sound}
-use Rattle.rule.specs.Table.{limit}
+use Rattle.rule.specs.Room.{flat, signed, sound}
+use Rattle.rule.specs.Table.{Table, limit, needed}
+use Rattle.trace.specs.Bytes.{AllBytes}
 use Rattle.demands.specs.Curve as curve
 use Rattle.demands.specs.Curve.{Curve}
-use Rattle.demands.specs.History.{Reading, arrived, runsOf}
+use Rattle.demands.specs.History.{Reading, arrived, runsOf, tableAfter}
 use Rattle.demands.specs.Served.{Near}
 use Rattle.ndezulangi.specs.declared.Counted.{Counted}
 use Rattle.ndezulangi.specs.declared.Fields.{Fields}
@@ -25,19 +27,19 @@ use Rattle.ndezulangi.specs.Plain.{fieldsOf, kindOf, lateReply, loadReply, look
 use Rattle.promises.specs.Answered.{Row, fileRows, lateRows, lookupRows, nextRows, openRows, writeRows}
 use Rattle.promises.specs.Demands.{Kept}
 
--- ---- demand 1
+-- ---- demand 1, by the rows of the table in Answered.antt
 
 -- refusal and place: those of the first row that is due, zeros where none is
 unfoldable pub firstDue : List Row → ℕ × ℕ
 firstDue [] = (0, 0)
 firstDue (r ∷ rs) = cond (r .due) (r .number, r .place) (firstDue rs)
 
--- of open, load and the two readings; refused, the state handed back is the one named, and the room is as it was
+-- of open, load and the two readings; refused, the state handed back is `back`, and the room is as it was
 pub record Replies (rows : List Row) (back : Fields) (before after : List ℤ) (r : Reply) : Type 0 where
   pub exactly : (r .refusal, r .place) ≡ firstDue rows
   pub untouched : r .refusal ≢ 0 → (r .state ≡ back) × (after ≡ before)
 
--- of lookup, which lends nothing to be written; refused, its other numbers are 0
+-- of lookup, which writes nothing; refused, its other numbers are 0
 pub record Shows (rows : List Row) (s : Shown) : Type 0 where
   pub exactly : (s .refusal, s .place) ≡ firstDue rows
   pub zeros : s .refusal ≢ 0 → s ≡ record { refusal = s .refusal; place = s .place; level = pos 0; error = 0; least = pos 0; largest = pos 0 }
@@ -47,6 +49,7 @@ pub record Counts {A : Type 0} (rows : List Row) (before after : List A) (c : Co
   pub exactly : (c .refusal, c .place) ≡ firstDue rows
   pub untouched : c .refusal ≢ 0 → (c .buckets ≡ 0) × (after ≡ before)
 
+-- of each function, for any numbers and bytes: open and load hand back zeros where they are refused, the two readings the state that was given
 pub record ExportedDemand1 : Type 0 where
   pub opens : (kind steps gaps : ℕ) (l : List ℤ) → let o = openReply kind steps gaps l in Replies (openRows (settingsOf kind steps gaps) l) none l (o .1) (o .0)
   pub nexts : (f : Fields) (l : List ℤ) (v : ℤ) → let o = nextReply f l v in Replies (nextRows (stateOf f) l) f l (o .1) (o .0)
@@ -60,8 +63,11 @@ pub record ExportedDemand1 : Type 0 where
       Replies (openRows (settingsOf kind steps gaps) l ++ fileRows (settingsOf kind steps gaps) file) none l (o .1) (o .0)
   -- 8: the record at its place is the file's, it breaks a rule, and all before it meet them
   pub places : (kind steps gaps : ℕ) (file : List ℕ) (l : List ℤ) → let r = loadReply kind steps gaps file l .0 in r .refusal ≡ 8 → FirstBroken (kindOf kind) file (r .place)
-  -- the zeros that a refused open or load hands back are sound with no room: each call that is given a state refuses them by 4
-  pub unusable : (l : List ℤ) → sound (stateOf none) l ≡ false
+  -- the zeros that a refused open or load hands back are sound with no room, so no call accepts them
+  pub unsound : (l : List ℤ) → sound (stateOf none) l ≡ false
+  pub unusable : (l : List ℤ) (tick : ℕ) (v : ℤ) (out : List ℤ) (bytes : List ℕ)
+      → nextReply none l v .0 .refusal ∷ lateReply none l tick v .0 .refusal ∷ lookupReply none l tick .refusal ∷ rowReply none l out .0 .refusal ∷ saveReply none l bytes .0 .refusal ∷ []
+      ≡ 4 ∷ 4 ∷ 4 ∷ 4 ∷ 4 ∷ []
 
 -- ---- demands 2 and 3
 
@@ -76,15 +82,11 @@ pub data Called (kind steps gaps : ℕ) : List Reading → Fields → List ℤ �
   lates : {rs : List Reading} {f : Fields} {l m : List ℤ} {r : Reply} (tick : ℕ) (v : ℤ) → signed v ≡ true → Called kind steps gaps rs f l → lateReply f l tick v ≡ (r, m) → r .refusal ≡ 0
       → Called kind steps gaps (record { tick = tick; value = v } ∷ rs) (r .state) m
   -- a refused reading: the caller goes on with the state that it handed back
-  next-refused : {rs : List Reading} {f : Fields} {l m : List ℤ} {r : Reply} (v : ℤ) → Called kind steps gaps rs f l → nextReply f l v ≡ (r, m) → r .refusal ≢ 0
-      → Called kind steps gaps rs (r .state) m
-  late-refused : {rs : List Reading} {f : Fields} {l m : List ℤ} {r : Reply} (tick : ℕ) (v : ℤ) → Called kind steps gaps rs f l → lateReply f l tick v ≡ (r, m) → r .refusal ≢ 0
-      → Called kind steps gaps rs (r .state) m
+  next-refused : {rs : List Reading} {f : Fields} {l m : List ℤ} {r : Reply} (v : ℤ) → Called kind steps gaps rs f l → nextReply f l v ≡ (r, m) → r .refusal ≢ 0 → Called kind steps gaps rs (r .state) m
+  late-refused : {rs : List Reading} {f : Fields} {l m : List ℤ} {r : Reply} (tick : ℕ) (v : ℤ) → Called kind steps gaps rs f l → lateReply f l tick v ≡ (r, m) → r .refusal ≢ 0 → Called kind steps gaps rs (r .state) m
   -- a refused open or load, by any numbers and bytes, lent the room that holds the trace: the caller goes on with the state of before
-  open-refused : {rs : List Reading} {f : Fields} {l m : List ℤ} {r : Reply} (k b g : ℕ) → Called kind steps gaps rs f l → openReply k b g l ≡ (r, m) → r .refusal ≢ 0
-      → Called kind steps gaps rs f m
-  load-refused : {rs : List Reading} {f : Fields} {l m : List ℤ} {r : Reply} (k b g : ℕ) (file : List ℕ) → Called kind steps gaps rs f l → loadReply k b g file l ≡ (r, m) → r .refusal ≢ 0
-      → Called kind steps gaps rs f m
+  open-refused : {rs : List Reading} {f : Fields} {l m : List ℤ} {r : Reply} (k b g : ℕ) → Called kind steps gaps rs f l → openReply k b g l ≡ (r, m) → r .refusal ≢ 0 → Called kind steps gaps rs f m
+  load-refused : {rs : List Reading} {f : Fields} {l m : List ℤ} {r : Reply} (k b g : ℕ) (file : List ℕ) → Called kind steps gaps rs f l → loadReply k b g file l ≡ (r, m) → r .refusal ≢ 0 → Called kind steps gaps rs f m
   -- saved into any output, and the bytes that were written loaded into any room by the same numbers: late any kind but 0 is the same, and in order any gaps
   loads : {rs : List Reading} {f : Fields} {l m : List ℤ} {c : Counted} {written : List ℕ} {r : Reply} (out : List ℕ) (room : List ℤ) (k b g : ℕ)
       → kept (settingsOf k b g) ≡ kept (settingsOf kind steps gaps) → Called kind steps gaps rs f l → saveReply f l out ≡ (c, written) → c .refusal ≡ 0
@@ -96,20 +98,40 @@ pub record Within (E : ℕ) (f : Fields) (l : List ℤ) (r : Reading) : Type 0 w
   pub near : distance (r .value) (lookupReply f l (r .tick) .level) ≤ E
   pub error : lookupReply f l (r .tick) .error ≤ E
 
+-- the buckets of the rule applied to the accepted readings
+abbrev pub bucketsOf : ℕ → ℕ → ℕ → List Reading → Table
+bucketsOf kind steps gaps rs = tableAfter (kept (settingsOf kind steps gaps)) rs
+
+-- not refused: so many buckets were written
+abbrev pub wroteAll : ℕ → Counted
+wroteAll n = record { refusal = 0; place = 0; buckets = n }
+
+-- of a trace opened with the numbers kind, steps and gaps
 pub record Promised (kind steps gaps : ℕ) (rs : List Reading) (f : Fields) (l : List ℤ) : Type 0 where
-  -- demands 2 and 3 of the state that the fields say
+  -- demands 2 and 3, as the calls keep them, of the state with these fields
   pub keeps : Kept (settingsOf kind steps gaps) rs (stateOf f) l
-  -- they say no more than the state
+  -- the fields are that state's, and say nothing else
   pub plain : fieldsOf (stateOf f) ≡ f
-  -- the numbers named at the opening, kind 1 for any late one and K in order kept as 0
+  -- the numbers named at the opening: a late kind is 1, and in order K is kept as 0
   pub kind-named : f .kind ≡ numberOf (kindOf kind)
   pub steps-named : f .steps ≡ steps
   pub gaps-named : f .gaps ≡ gapsKept (kindOf kind) gaps
-  -- the slots in use, the unbroken runs and the readings
+  -- at most 2B steps, late one more for each unbroken run
   pub size : f .used ≤ limit (settingsOf kind steps gaps) (runsOf rs)
   pub runs : f .runs ≡ runsOf rs
   pub readings : f .readings ≡ length rs
+  -- demand 2: ndz_row and ndz_save write the buckets of the rule, where the output is long enough, and nothing behind them
+  pub row : (out : List ℤ) → slotWidth * f .used ≤ length out → rowReply f l out ≡ (wroteAll (f .used), flat (bucketsOf kind steps gaps rs) ++ drop (slotWidth * f .used) out)
+  pub save : (out : List ℕ) → recordWidth * f .used ≤ length out → saveReply f l out ≡ (wroteAll (f .used), saved (bucketsOf kind steps gaps rs) ++ drop (recordWidth * f .used) out)
+  -- and ndz_load of these bytes by the same numbers, into any room that is long enough, hands back the same state
+  pub load : (k b g : ℕ) (room : List ℤ) → kept (settingsOf k b g) ≡ kept (settingsOf kind steps gaps) → slotWidth * needed (kept (settingsOf kind steps gaps)) ≤ length room
+      → loadReply k b g (saved (bucketsOf kind steps gaps rs)) room .0 ≡ record { refusal = 0; place = 0; state = f }
   -- demand 3: against every curve of at most as many flat steps as named, by ndz_lookup itself
   pub picture : (c : Curve) (E : ℕ) → curve.steps c ≤ steps → Near E c rs → (r : Reading) → List·Memᴰ r rs → Within E f l r
-  -- ndz_lookup shows exactly the ticks of the accepted readings: another is refused by 12, one above the last tick by 6
+  -- ndz_lookup shows exactly the ticks of the accepted readings: any other is refused, above the last tick by 6 and else by 12
   pub covers : (tick : ℕ) → lookupReply f l tick .refusal ≡ cond (arrived tick rs) 0 (cond (leb ticks tick) 6 12)
+
+-- demand 2 of bytes from anywhere: what ndz_load accepts, ndz_save writes, and nothing behind it
+pub record ExportedDemand2 : Type 0 where
+  pub same-bytes : (kind steps gaps : ℕ) (file out : List ℕ) (l : List ℤ) → AllBytes file → length file ≤ length out → let o = loadReply kind steps gaps file l in o .0 .refusal ≡ 0
+      → saveReply (o .0 .state) (o .1) out ≡ (wroteAll (length file / recordWidth), file ++ drop (length file) out)

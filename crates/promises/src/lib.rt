@@ -1,1 +1,1 @@
-// The three demands, stated of the calls: statements in specs/, their proofs in proofs/. There is no code here.
+// The three demands, stated of the calls and of the exported functions: statements in specs/, their proofs in proofs/. There is no code here.

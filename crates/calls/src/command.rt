@@ -14,12 +14,12 @@ pub struct Command {
 
 impl Command {
     // The second number and, above it, the third.
-    pub fn long(self) -> u64 {
+    pub(crate) fn long(self) -> u64 {
         self.second as u64 + self.third as u64 * 4294967296
     }
 
     // The listed tick at a place from 0 to 6.
-    pub fn tick(self, place: usize) -> u32 {
+    pub(crate) fn tick(self, place: usize) -> u32 {
         match place {
             0 => self.order as u32 + self.above as u32 * 256,
             1 => self.first % 65536,
@@ -47,7 +47,7 @@ fn word(input: &[u8], at: usize) -> u32
         + wide(input[at + 3]) * 16777216
 }
 
-pub fn read(input: &[u8], at: usize) -> Command
+pub(crate) fn read(input: &[u8], at: usize) -> Command
     requires { ⌜ at + 16 ≤ length (now input) ⌝ }
 {
     Command {
@@ -62,7 +62,7 @@ pub fn read(input: &[u8], at: usize) -> Command
 }
 
 // The number that the bits stand for in two's complement.
-pub fn signed32(bits: u32) -> i32 {
+pub(crate) fn signed32(bits: u32) -> i32 {
     if bits < 2147483648 {
         bits as i32
     } else {
@@ -70,7 +70,7 @@ pub fn signed32(bits: u32) -> i32 {
     }
 }
 
-pub fn signed64(bits: u64) -> i64 {
+pub(crate) fn signed64(bits: u64) -> i64 {
     if bits < 9223372036854775808 {
         bits as i64
     } else {
@@ -79,7 +79,7 @@ pub fn signed64(bits: u64) -> i64 {
 }
 
 // The bits of a number in two's complement.
-pub fn bits(number: i64) -> u64 {
+pub(crate) fn bits(number: i64) -> u64 {
     if number < 0 {
         18446744073709551615 - (-1 - number) as u64
     } else {

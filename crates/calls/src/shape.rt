@@ -2,7 +2,7 @@
 use crate::command::signed32;
 
 // The next number of a row of noise (xorshift by 13, 17 and 5).
-pub fn stirred(number: u32) -> u32 {
+pub(crate) fn stirred(number: u32) -> u32 {
     let a = number ^ (number << 13);
     let b = a ^ (a >> 17);
     b ^ (b << 5)
@@ -32,12 +32,12 @@ fn shaped(shape: u8, seed: u32, turn: u32, noise: u32) -> u32 {
     }
 }
 
-pub fn reading(shape: u8, seed: u32, turn: u32, noise: u32) -> i32 {
+pub(crate) fn reading(shape: u8, seed: u32, turn: u32, noise: u32) -> i32 {
     signed32(shaped(shape, seed, turn, noise))
 }
 
 // The square wave's reading that belongs to a tick.
-pub fn square_at(tick: u32) -> i32 {
+pub(crate) fn square_at(tick: u32) -> i32 {
     signed32(square(tick as u64))
 }
 
@@ -65,7 +65,7 @@ fn bursty(turn: u32) -> u32 {
 }
 
 // From the first tick up, from the last tick down, each eight displaced a little, by the three orders above, or by the noise among 64 ticks for each number up to the order's.
-pub fn tick(order: u8, turn: u32, noise: u32) -> u32 {
+pub(crate) fn tick(order: u8, turn: u32, noise: u32) -> u32 {
     match order {
         0 => turn,
         1 => std::num::wrapping_sub_u32(16777215, turn),
@@ -78,7 +78,7 @@ pub fn tick(order: u8, turn: u32, noise: u32) -> u32 {
 }
 
 // After every so many readings, 0 being none, and after the last.
-pub fn told(turn: u32, count: u32, every: u32) -> bool {
+pub(crate) fn told(turn: u32, count: u32, every: u32) -> bool {
     let turns = turn as u64 + 1;
     if turns == count as u64 {
         return true;

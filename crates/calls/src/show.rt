@@ -2,7 +2,7 @@
 use crate::command::bits;
 use rule::Refusal;
 
-pub fn unsigned(number: u64, after: &[u8]) {
+pub(crate) fn unsigned(number: u64, after: &[u8]) {
     io::print_decimal(libc::STDOUT_FILENO, number);
     io::write_all(libc::STDOUT_FILENO, after);
 }
@@ -20,12 +20,12 @@ fn state(facts: &[usize; 7]) {
     unsigned(facts[5] as u64, b" ");
 }
 
-pub fn accepted(facts: &[usize; 7]) {
+pub(crate) fn accepted(facts: &[usize; 7]) {
     text(b"accepted ");
     state(facts);
 }
 
-pub fn refused(refusal: Refusal) {
+pub(crate) fn refused(refusal: Refusal) {
     text(b"refused ");
     unsigned(refusal.number() as u64, b" ");
     unsigned(refusal.place() as u64, b" ");
@@ -38,7 +38,7 @@ fn signed(number: i32) {
     unsigned(rule::distance(number, 0) as u64, b" ");
 }
 
-pub fn found(level: i32, error: u32, least: i32, largest: i32) {
+pub(crate) fn found(level: i32, error: u32, least: i32, largest: i32) {
     text(b"found ");
     signed(level);
     unsigned(error as u64, b" ");
@@ -58,7 +58,7 @@ fn sum(room: &[i64]) -> u64 {
     sum
 }
 
-pub fn checksum(room: &[i64]) {
+pub(crate) fn checksum(room: &[i64]) {
     io::print_hex(libc::STDOUT_FILENO, sum(room), 16);
     text(b"\n");
 }
@@ -73,7 +73,7 @@ fn numbers(room: &[i64]) {
 }
 
 // The facts, and each lent number by its bits.
-pub fn whole(facts: &[usize; 7], room: &[i64]) {
+pub(crate) fn whole(facts: &[usize; 7], room: &[i64]) {
     text(b"7 ");
     state(facts);
     numbers(room);

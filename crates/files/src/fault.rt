@@ -19,7 +19,7 @@ pub enum Fault {
     More,
 }
 
-pub fn numbered(i: usize) -> Fault {
+pub(crate) fn numbered(i: usize) -> Fault {
     match i {
         0 => Fault::Whole,
         1 => Fault::Flipped,
@@ -55,7 +55,7 @@ fn cuts(n: usize) -> usize {
 }
 
 // The places of a fault in a file of so many records.
-pub fn places(f: Fault, n: usize) -> usize {
+pub(crate) fn places(f: Fault, n: usize) -> usize {
     if 768 < n {
         return 0;
     }
@@ -80,7 +80,7 @@ fn of(file: &[u8], index: usize) -> Bucket {
 }
 
 // A record of one tick cannot be two.
-pub fn fits(file: &[u8], f: Fault, place: usize) -> bool {
+pub(crate) fn fits(file: &[u8], f: Fault, place: usize) -> bool {
     match f {
         Fault::More => {
             let b = of(file, place);
@@ -286,7 +286,7 @@ fn length(f: Fault, place: usize, records: usize) -> usize {
 }
 
 // Writes the file with the fault, and answers its length.
-pub fn write(file: &[u8], f: Fault, place: usize, out: &mut [u8]) -> usize {
+pub(crate) fn write(file: &[u8], f: Fault, place: usize, out: &mut [u8]) -> usize {
     let n = records(f, file.len() / 16);
     let mut j = 0;
     while j < n {

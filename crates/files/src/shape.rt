@@ -101,7 +101,7 @@ fn largest(index: usize) -> i32 {
 }
 
 // A bucket, whose largest is its least where it has one tick.
-pub fn bucket(start: u32, count: u32, least: i32, largest: i32) -> Bucket {
+pub(crate) fn bucket(start: u32, count: u32, least: i32, largest: i32) -> Bucket {
     if count == 1 {
         return Bucket {
             start,
@@ -119,13 +119,13 @@ pub fn bucket(start: u32, count: u32, least: i32, largest: i32) -> Bucket {
 }
 
 // The record at an index becomes that of `b`, where there is one.
-pub fn put(out: &mut [u8], index: usize, b: Bucket) {
+pub(crate) fn put(out: &mut [u8], index: usize, b: Bucket) {
     if index < out.len() / 16 {
         record::write(out, index, b);
     }
 }
 
-pub fn make(s: Shape, file: &mut [u8]) {
+pub(crate) fn make(s: Shape, file: &mut [u8]) {
     let n = s.records;
     let runs = runs(s);
     let mut end = 0;

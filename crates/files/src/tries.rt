@@ -359,7 +359,7 @@ fn at_place(
     }
 }
 
-pub fn at_places(s: Shape, f: Fault, file: &[u8], counts: &mut [u64; 14]) {
+pub(crate) fn at_places(s: Shape, f: Fault, file: &[u8], counts: &mut [u64; 14]) {
     let mut hurt = [0u8; 12304];
     let mut room = [0i64; 3081];
     let mut out = [0u8; 12324];

@@ -161,7 +161,8 @@ fn line_read(f: Feeding, room: &mut [i64], line: &[u8]) -> Feeding {
     after(f, l, fed)
 }
 
-// One byte: a line feed ends the line begun, any other byte lengthens it, up to one byte more than a line may have.
+// One byte: a line feed ends the line begun, any other byte lengthens it. A byte more than a line may have refuses the line at once, whatever
+// follows, so that an input without a line feed ends the run too.
 fn byte(f: Feeding, room: &mut [i64], line: &mut [u8], b: u8) -> Feeding {
     let filled = f.filled;
     if b == b'\n' {
@@ -174,7 +175,7 @@ fn byte(f: Feeding, room: &mut [i64], line: &mut [u8], b: u8) -> Feeding {
         line[filled] = b;
         return lengthened(f);
     }
-    f
+    after(f, Line::Unreadable, Fed::Refused(LINE))
 }
 
 fn lengthened(f: Feeding) -> Feeding {
@@ -189,7 +190,7 @@ fn lengthened(f: Feeding) -> Feeding {
 }
 
 // The default trace, with nothing read. Its answer is a trace: the room has slots enough for 32 steps.
-pub fn begin(room: &mut [i64]) -> Feeding {
+pub(crate) fn begin(room: &mut [i64]) -> Feeding {
     let settings = Settings {
         kind: Kind::InOrder,
         steps: DEFAULT_STEPS,
@@ -221,7 +222,7 @@ fn trace_of(a: Answer, settings: Settings) -> Trace {
 }
 
 // A piece of the input, until it ends or a line is refused.
-pub fn piece(f: Feeding, room: &mut [i64], line: &mut [u8], bytes: &[u8]) -> Feeding {
+pub(crate) fn piece(f: Feeding, room: &mut [i64], line: &mut [u8], bytes: &[u8]) -> Feeding {
     let mut state = f;
     let mut i = 0;
     while i < bytes.len() {
@@ -235,7 +236,7 @@ pub fn piece(f: Feeding, room: &mut [i64], line: &mut [u8], bytes: &[u8]) -> Fee
 }
 
 // What stands behind the last line feed is a line, unless it is nothing.
-pub fn rest(f: Feeding, room: &mut [i64], line: &[u8]) -> Feeding {
+pub(crate) fn rest(f: Feeding, room: &mut [i64], line: &[u8]) -> Feeding {
     let filled = f.filled;
     if f.refused != 0 {
         return f;

@@ -1,25 +1,36 @@
 // The listing program: a trace's lines from standard input, its buckets and their total to standard output, or the first refused line.
 
+mod ending;
 mod feed;
 mod list;
 
-// The last line may lack its line feed; nothing after the last line feed is no line.
+// The last line may lack its line feed; nothing after the last line feed is no line. A refused line ends the run, and nothing more is read. Where the
+// input cannot be read to its end, what was read of it is not shown.
 fn main() {
     let mut room = [0i64; 3076];
-    let mut line = [0u8; 65];
+    let mut line = [0u8; 64];
     let mut piece = io::large_buffer();
     let mut state = feed::begin(&mut room);
     let mut turns: u64 = 18446744073709551615;
     while 0 < turns {
         let got = libc::read(libc::STDIN_FILENO, &mut piece);
+        if got < 0 {
+            ending::unread();
+            return;
+        }
         let n = io::count(got, &piece);
         if n == 0 {
             turns = 0;
         } else {
             state = feed::piece(state, &mut room, &mut line, &piece[0..n]);
-            turns -= 1;
+            if state.refused == 0 {
+                turns -= 1;
+            } else {
+                turns = 0;
+            }
         }
     }
     state = feed::rest(state, &mut room, &line);
-    list::show(state, &room);
+    let written = list::show(state, &room);
+    ending::shown(state.refused, written);
 }

@@ -23,7 +23,7 @@ pub const DOWN: u8 = 2;
 
 pub const BY_MANY: u8 = 3;
 
-pub fn first_tick(order: u8) -> u32 {
+pub(crate) fn first_tick(order: u8) -> u32 {
     if order == DOWN { 16777215 } else { 0 }
 }
 
@@ -65,7 +65,7 @@ fn is_late(trace: Trace) -> bool {
 }
 
 // The trace with one reading more in its state than it has.
-pub fn unsound(trace: Trace) -> Trace {
+pub(crate) fn unsound(trace: Trace) -> Trace {
     let state = trace.state;
     let settings = state.settings;
     Trace {
@@ -109,7 +109,7 @@ fn after(a: Answer, before: Trace) -> Trace {
     trace
 }
 
-pub fn step(f: Fed, room: &mut [i64], order: u8, turn: u32) -> Fed {
+pub(crate) fn step(f: Fed, room: &mut [i64], order: u8, turn: u32) -> Fed {
     let t = asked(f, room, turn);
     let answer = t.answer;
     let tally = t.tally;

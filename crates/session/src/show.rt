@@ -40,7 +40,7 @@ fn kind_name(kind: Kind) {
     }
 }
 
-pub fn heading(kind: Kind, steps: usize, gaps: usize, t: Tally) {
+pub(crate) fn heading(kind: Kind, steps: usize, gaps: usize, t: Tally) {
     kind_name(kind);
     number(steps as u64);
     text(b" K ");
@@ -50,14 +50,14 @@ pub fn heading(kind: Kind, steps: usize, gaps: usize, t: Tally) {
     text(b"\n");
 }
 
-pub fn refused(r: Refusal) {
+pub(crate) fn refused(r: Refusal) {
     text(b"refused ");
     number(r.number() as u64);
     text(b"\n");
 }
 
 // A reading's number, what it is answered, and the tally after it.
-pub fn reading(turn: u32, a: Answer, t: Tally) {
+pub(crate) fn reading(turn: u32, a: Answer, t: Tally) {
     text(b"reading ");
     number(turn as u64);
     text(b": ");
@@ -128,7 +128,7 @@ fn row_of(trace: Trace, room: &[i64]) {
     answer(unsound(trace), room, used);
 }
 
-pub fn ended(f: Fed, room: &[i64]) {
+pub(crate) fn ended(f: Fed, room: &[i64]) {
     let trace = f.trace;
     let t = f.tally;
     let state = trace.state;

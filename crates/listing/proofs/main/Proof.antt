@@ -6,7 +6,7 @@ use Rattle.listing.proofs.main.Statement.{statement}
 use Rattle.listing.proofs.main.Tie as tie
 
 abbrev Inv-loop : tie.InvT-loop
-Inv-loop room₀ line₀ piece₀ state₀ turns₀ room line piece state turns = (length room ≡ 3076) × ((length line ≡ 65) × (length piece ≡ 65536))
+Inv-loop room₀ line₀ piece₀ state₀ turns₀ room line piece state turns = (length room ≡ 3076) × ((length line ≡ 64) × (length piece ≡ 65536))
 
 abbrev μ-loop : tie.MeasureT-loop
 μ-loop room₀ line₀ piece₀ state₀ turns₀ room line piece state turns = turns
@@ -28,6 +28,12 @@ slice-aggregate-read c = search needs
 
 read-requires : tie.Need-read-requires Inv-loop μ-loop
 read-requires c κs = search needs
+
+unread-requires : tie.Need-unread-requires Inv-loop μ-loop
+unread-requires c κs = search needs
+
+returns : tie.Need-returns Inv-loop μ-loop
+returns c = search needs
 
 slice-aggregate-count : tie.Need-slice-aggregate-count Inv-loop μ-loop
 slice-aggregate-count c = search needs
@@ -68,6 +74,12 @@ loop-less-2 c = search needs
 loop-again-2 : tie.Need-loop-again-2 Inv-loop μ-loop
 loop-again-2 c = search needs
 
+loop-less-3 : tie.Need-loop-less-3 Inv-loop μ-loop
+loop-less-3 c = search needs
+
+loop-again-3 : tie.Need-loop-again-3 Inv-loop μ-loop
+loop-again-3 c = search needs
+
 slice-aggregate-rest : tie.Need-slice-aggregate-rest Inv-loop μ-loop
 slice-aggregate-rest c = search needs
 
@@ -83,8 +95,11 @@ slice-aggregate-show c = search needs
 show-requires : tie.Need-show-requires Inv-loop μ-loop
 show-requires c κs = search needs
 
-returns : tie.Need-returns Inv-loop μ-loop
-returns c = search needs
+shown-requires : tie.Need-shown-requires Inv-loop μ-loop
+shown-requires c κs = search needs
+
+returns-2 : tie.Need-returns-2 Inv-loop μ-loop
+returns-2 c = search needs
 
 pub main-spec : {M : Type 1} → statement M
 main-spec =
@@ -98,6 +113,8 @@ main-spec =
     loop-holds
     slice-aggregate-read
     read-requires
+    unread-requires
+    returns
     slice-aggregate-count
     count-requires
     loop-less
@@ -111,9 +128,12 @@ main-spec =
     sub-turns
     loop-less-2
     loop-again-2
+    loop-less-3
+    loop-again-3
     slice-aggregate-rest
     slice-aggregate-rest-2
     rest-requires
     slice-aggregate-show
     show-requires
-    returns)
+    shown-requires
+    returns-2)

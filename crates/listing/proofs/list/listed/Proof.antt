@@ -5,16 +5,19 @@ use Rattle.listing.proofs.list.listed.Statement.{statement}
 use Rattle.listing.proofs.list.listed.Tie as tie
 
 abbrev Inv-loop : tie.InvT-loop
-Inv-loop t room s worst₀ i₀ i-end worst i = i ≤ i-end
+Inv-loop t room s shown₀ i₀ i-end shown i = i ≤ i-end
 
 abbrev μ-loop : tie.MeasureT-loop
-μ-loop t room s worst₀ i₀ i-end worst i = i-end - i
+μ-loop t room s shown₀ i₀ i-end shown i = i-end - i
 
 loop-holds : tie.Need-loop-holds Inv-loop μ-loop
 loop-holds c = search needs
 
 bucket-requires : tie.Need-bucket-requires Inv-loop μ-loop
 bucket-requires c κs = search needs
+
+returns : tie.Need-returns Inv-loop μ-loop
+returns c = search needs
 
 add-i : tie.Need-add-i Inv-loop μ-loop
 add-i c = search needs
@@ -37,8 +40,8 @@ slice-aggregate-write c = search needs
 write-requires : tie.Need-write-requires Inv-loop μ-loop
 write-requires c κs = search needs
 
-returns : tie.Need-returns Inv-loop μ-loop
-returns c = search needs
+returns-2 : tie.Need-returns-2 Inv-loop μ-loop
+returns-2 c = search needs
 
 pub listed-spec : {M : Type 1} → statement M
 listed-spec =
@@ -48,6 +51,7 @@ listed-spec =
     μ-loop
     loop-holds
     bucket-requires
+    returns
     add-i
     loop-less
     loop-again
@@ -55,4 +59,4 @@ listed-spec =
     put-total-requires
     slice-aggregate-write
     write-requires
-    returns)
+    returns-2)

@@ -2,11 +2,13 @@
 
 pub mod arrivals;
 pub mod calls;
+pub mod classes;
 pub mod commands;
 pub mod commands_input;
 pub mod files;
 pub mod lines;
 pub mod listing;
+pub mod long_lines;
 pub mod made;
 pub mod random;
 pub mod rule;

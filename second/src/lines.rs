@@ -1,10 +1,43 @@
-//! Inputs for the listing program, of every kind of line, good and refused, each made from its number.
+//! Inputs for the listing program, each made from its number: short ones of every kind of line, good and refused; traces without a header; B and K
+//! up to their bounds; and inputs longer than one read.
 
+use crate::long_lines;
 use crate::random::Random;
+use crate::shapes::{self, Shape};
 use std::fmt::Write as _;
 
+type Make = fn(u64) -> Vec<u8>;
+
+/// How many inputs each group has, and what makes one of them.
+const GROUPS: [(u64, Make); 10] = [
+    (240, short),
+    (45, without_header),
+    (44, in_order_of_any_steps),
+    (50, late_of_any_runs),
+    (12, late_in_any_order),
+    (15, long_lines::cut),
+    (6, long_lines::by_chance),
+    (8, long_lines::ending_at_a_read),
+    (12, long_lines::too_long_at_a_read),
+    (5, long_lines::refused_at_the_end),
+];
+
 /// How many inputs there are.
-pub const INPUTS: u64 = 240;
+pub fn inputs() -> u64 {
+    GROUPS.iter().map(|(count, _)| count).sum()
+}
+
+/// The input of a number below `inputs`, as bytes.
+pub fn input(number: u64) -> Vec<u8> {
+    let mut number_in_group = number;
+    for (count, make) in GROUPS {
+        if number_in_group < count {
+            return make(number_in_group);
+        }
+        number_in_group -= count;
+    }
+    panic!("no input has the number {number}");
+}
 
 /// Lines that no trace can read, and lines that stand at the edge of what can be read.
 const ODD: [&str; 26] = [
@@ -53,8 +86,8 @@ const HEADERS: [&str; 10] = [
 /// Ticks of a late trace that are past the last, or past the field.
 const TICKS: [&str; 3] = ["16777216 1", "4294967295 1", "4294967296 1"];
 
-/// The input of a number, as bytes; the last line lacks its line feed in every third.
-pub fn input(number: u64) -> Vec<u8> {
+/// A short input; the last line lacks its line feed in every third.
+fn short(number: u64) -> Vec<u8> {
     let mut random = Random::new(number * 2 + 1);
     let mut text = String::new();
     let late = number % 2 == 1;
@@ -109,4 +142,85 @@ pub fn input(number: u64) -> Vec<u8> {
         text.pop();
     }
     text.into_bytes()
+}
+
+/// In order by default: exactly the limit of readings, one more, twice as many, and many more. The last line lacks its line feed in every second.
+fn without_header(number: u64) -> Vec<u8> {
+    const READINGS: [usize; 9] = [64, 65, 128, 129, 151, 200, 257, 1_000, 3_000];
+    const FED: [(Shape, u32); 5] = [
+        (Shape::Ramp, u32::MAX - 299),
+        (Shape::Square, 11),
+        (Shape::Noise, 12),
+        (Shape::FewLevels, 13),
+        (Shape::FullSwings, 14),
+    ];
+    let readings = READINGS[number as usize % READINGS.len()];
+    let (shape, seed) = FED[number as usize / READINGS.len()];
+    let mut text = values(shape, seed, readings);
+    if number % 2 == 1 {
+        text.pop();
+    }
+    text.into_bytes()
+}
+
+/// A header of steps, and readings enough that buckets merge.
+fn in_order_of_any_steps(number: u64) -> Vec<u8> {
+    const STEPS: [usize; 11] = [1, 2, 3, 31, 32, 33, 64, 128, 254, 255, 256];
+    const SHAPES: [Shape; 4] = [
+        Shape::Square,
+        Shape::Noise,
+        Shape::FewLevels,
+        Shape::FullSwings,
+    ];
+    let steps = STEPS[number as usize % STEPS.len()];
+    let shape = SHAPES[number as usize / STEPS.len()];
+    let readings = 2 * steps + 1 + number as usize * 7;
+    let text = format!("steps {steps}\n") + &values(shape, number as u32 + 1, readings);
+    text.into_bytes()
+}
+
+/// As many runs as K allows, each long enough that buckets merge. Then, by turns, half of the ticks missing between them arrive, or one more run
+/// is begun, which is refused.
+fn late_of_any_runs(number: u64) -> Vec<u8> {
+    const ENDS: [u64; 5] = [1, 2, 32, 255, 256];
+    let steps = ENDS[number as usize % 5];
+    let gaps = ENDS[number as usize / 5 % 5];
+    let length = 2 * steps / gaps + 3;
+    let mut random = Random::new(number + 1_000);
+    let mut text = format!("steps {steps}\nlate {gaps}\n");
+    let mut arrive = |tick: u64| {
+        let value = random.between(-5_000, 5_000);
+        writeln!(text, "{tick} {value}").expect("a string takes any text");
+    };
+    for place in 0..length {
+        (0..gaps).for_each(|run| arrive(run * (length + 1) + place));
+    }
+    if number < 25 {
+        (1..gaps)
+            .step_by(2)
+            .for_each(|run| arrive(run * (length + 1) - 1));
+    } else {
+        arrive(gaps * (length + 1) + 5);
+        arrive(gaps * (length + 1) - 1);
+    }
+    text.into_bytes()
+}
+
+fn late_in_any_order(number: u64) -> Vec<u8> {
+    let steps = [32, 256][number as usize % 2];
+    let order = number as u8 / 2;
+    let mut text = format!("steps {steps}\nlate 256\n");
+    for reading in shapes::readings(Shape::Noise, number as u32 + 1).take(1_500) {
+        writeln!(text, "{} {}", reading.tick(order), reading.value)
+            .expect("a string takes any text");
+    }
+    text.into_bytes()
+}
+
+fn values(shape: Shape, seed: u32, readings: usize) -> String {
+    let mut text = String::new();
+    for reading in shapes::readings(shape, seed).take(readings) {
+        writeln!(text, "{}", reading.value).expect("a string takes any text");
+    }
+    text
 }

@@ -2,9 +2,9 @@
 
 use second::rule::Bucket;
 use second::told::{self, Form};
-use second::{commands_input, files, lines, listing, sample, script, session};
+use second::{classes, commands_input, files, lines, listing, sample, script, session};
 use std::fmt::Write as _;
-use std::io::{self, Write};
+use std::io::{self, Read, Write};
 use std::process::ExitCode;
 
 /// Readings at the ends of the range, about zero and between, odd and even.
@@ -25,7 +25,7 @@ const VALUES: [i64; 13] = [
 ];
 
 const USAGE: &str =
-    "second list | buckets | calls [whole] | calls-input | files | lines N | sample [READINGS] | session | script SEED COUNT | script-counts SEED COUNT";
+    "second list | classes | buckets | calls [whole] | calls-input | files | lines N | sample [READINGS] | session | script SEED COUNT | script-counts SEED COUNT";
 
 fn main() -> ExitCode {
     let arguments: Vec<String> = std::env::args().skip(1).collect();
@@ -47,6 +47,13 @@ fn main() -> ExitCode {
 fn answer(words: &[&str], out: &mut impl Write) -> io::Result<bool> {
     match words {
         ["lines", number] => out.write_all(&lines::input(numbered(number)?))?,
+        ["classes"] => {
+            let mut input = Vec::new();
+            io::stdin().lock().read_to_end(&mut input)?;
+            for class in classes::classes(&input)? {
+                writeln!(out, "{class}")?;
+            }
+        }
         ["list"] => out.write_all(&listing::list(io::stdin().lock())?)?,
         ["buckets"] => out.write_all(buckets().as_bytes())?,
         ["calls"] => told::obey_all(Form::Checksums, io::stdin().lock(), out)?,
@@ -75,7 +82,7 @@ fn number(text: &str) -> io::Result<u64> {
 /// The number of one of the listing's inputs; none past the last.
 fn numbered(text: &str) -> io::Result<u64> {
     let number = number(text)?;
-    if number < lines::INPUTS {
+    if number < lines::inputs() {
         return Ok(number);
     }
     Err(io::Error::other("no input of that number"))

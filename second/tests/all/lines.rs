@@ -1,7 +1,9 @@
 //! The listing program's lines: what it reads, what it refuses, and where.
 
 use crate::support::{random_trace, Trace};
+use second::classes::classes;
 use second::listing::list;
+use second::long_lines::{self, READ};
 use second::random::Random;
 use second::rule::{worst_error, Kind};
 
@@ -156,4 +158,57 @@ fn the_sample_shows_its_two_reading_drop() {
     let output = listed(&second::sample::sample(second::sample::READINGS));
     assert!(output.contains("\n1500 2 7383 7414 7398\n"));
     assert!(output.ends_with("total 2400 64 18\n"));
+}
+
+#[test]
+fn classes_are_read_off_the_input() {
+    let quiet = "5\n".repeat(100_000);
+    let nines = "9".repeat(64);
+    for (input, found) in [
+        ("", "whole"),
+        ("steps 1\n1\n2\n", "whole"),
+        ("steps 1\n1\n2\n3\n", "whole, merged: steps 1"),
+        (
+            "steps 1\nlate 1\n0 1\n1 2\n2 4\n3 4",
+            "last line without a line feed, whole, merged: steps 1, late 1",
+        ),
+        ("1\n-2\n", "whole, no header: negative readings"),
+        ("bad", "last line without a line feed, refused 14"),
+        (
+            &format!("5\n{nines}\n"),
+            "refused 14, refused line of 64 bytes",
+        ),
+        (
+            &format!("{}{nines}9\n", &quiet[..65_536]),
+            "refused 14, refused line of 65 bytes, refused line of 65 bytes where a read ends",
+        ),
+        (
+            &format!("{}-2147483648\n", &quiet[..65_530]),
+            "whole, no header: more than 150 readings, no header: negative readings, line of 11 bytes cut at 6",
+        ),
+        (
+            &format!("{quiet}6 6\n"),
+            "more than 200000 bytes, refused 14, refused after 65536 bytes",
+        ),
+    ] {
+        assert_eq!(classes(input.as_bytes()).unwrap().join(", "), found);
+    }
+}
+
+#[test]
+fn a_byte_lost_or_doubled_where_a_read_ends_shows() {
+    for number in 0..15 {
+        let input = long_lines::cut(number);
+        let output = list(&input[..]).unwrap();
+        for end in [READ, 2 * READ, 3 * READ] {
+            for place in [end - 1, end] {
+                let mut lost = input.clone();
+                lost.remove(place);
+                assert_ne!(list(&lost[..]).unwrap(), output);
+                let mut doubled = input.clone();
+                doubled.insert(place, input[place]);
+                assert_ne!(list(&doubled[..]).unwrap(), output);
+            }
+        }
+    }
 }

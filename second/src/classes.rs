@@ -1,0 +1,131 @@
+//! What an input of the listing program tries, read off the input itself and its listing: one line a class, to be counted over all inputs.
+
+use crate::listing;
+use crate::long_lines::{LONG, PAIR_BYTES, READ, VALUE_BYTES};
+use std::io;
+
+/// B and K at their bounds, and next to the upper one.
+const BOUNDS: [u64; 3] = [1, 255, 256];
+
+/// The classes of an input.
+pub fn classes(input: &[u8]) -> io::Result<Vec<String>> {
+    let output = listing::list(input)?;
+    let output = String::from_utf8(output).map_err(io::Error::other)?;
+    let last: Vec<&str> = output.lines().last().unwrap_or("").split(' ').collect();
+    let mut found = of_bytes(input);
+    match last[..] {
+        ["refused", line, refusal] => {
+            found.push(format!("refused {refusal}"));
+            found.extend(of_refused_line(input, number(line)?));
+        }
+        ["total", readings, buckets, _] => {
+            found.push("whole".to_string());
+            found.extend(of_headers(
+                input,
+                &output,
+                number(readings)?,
+                number(buckets)?,
+            ));
+            found.extend(of_cuts(input));
+        }
+        _ => return Err(io::Error::other("neither a listing nor a refusal")),
+    }
+    Ok(found)
+}
+
+fn number(word: &str) -> io::Result<u64> {
+    word.parse().map_err(io::Error::other)
+}
+
+fn of_bytes(input: &[u8]) -> Vec<String> {
+    let mut found = Vec::new();
+    if input.last().is_some_and(|&byte| byte != b'\n') {
+        found.push("last line without a line feed".to_string());
+    }
+    if input.len() > LONG {
+        found.push(format!("more than {LONG} bytes"));
+    }
+    if input.len() == READ {
+        found.push(format!("{READ} bytes"));
+    }
+    found
+}
+
+fn of_refused_line(input: &[u8], line: u64) -> Vec<String> {
+    let mut found = Vec::new();
+    let begin = (1..line).fold(0, |begin, _| begin + line_bytes(&input[begin..]) + 1);
+    let bytes = line_bytes(&input[begin..]);
+    if bytes == 64 || bytes == 65 {
+        found.push(format!("refused line of {bytes} bytes"));
+        // A read ends before its first byte, inside it, or before or after its line feed.
+        if (begin + bytes + 1) / READ > begin.saturating_sub(1) / READ {
+            found.push(format!("refused line of {bytes} bytes where a read ends"));
+        }
+    }
+    if begin > READ {
+        found.push(format!("refused after {READ} bytes"));
+    }
+    found
+}
+
+/// The bytes before the first line feed.
+fn line_bytes(bytes: &[u8]) -> usize {
+    let feed = bytes.iter().position(|&byte| byte == b'\n');
+    feed.unwrap_or(bytes.len())
+}
+
+fn of_headers(input: &[u8], output: &str, readings: u64, buckets: u64) -> Vec<String> {
+    let merged = readings > buckets;
+    let text = String::from_utf8_lossy(input);
+    let mut lines = text.lines().peekable();
+    let mut header = |name: &str| {
+        let line = lines.next_if(|line| line.starts_with(name))?;
+        line[name.len()..].parse().ok()
+    };
+    match (header("steps "), header("late ")) {
+        (None, None) => of_no_header(output, readings),
+        (Some(steps), None) if merged && BOUNDS.contains(&steps) => {
+            vec![format!("merged: steps {steps}")]
+        }
+        (Some(steps), Some(gaps))
+            if merged && BOUNDS.contains(&steps) && BOUNDS.contains(&gaps) =>
+        {
+            vec![format!("merged: steps {steps}, late {gaps}")]
+        }
+        _ => Vec::new(),
+    }
+}
+
+fn of_no_header(output: &str, readings: u64) -> Vec<String> {
+    let mut found = Vec::new();
+    if [64, 65, 128, 129].contains(&readings) {
+        found.push(format!("no header: {readings} readings"));
+    }
+    if readings > 150 {
+        found.push("no header: more than 150 readings".to_string());
+    }
+    // A bucket's third field is its least reading.
+    let least = |row: &str| row.split(' ').nth(2).map(str::to_string);
+    if output
+        .lines()
+        .filter_map(least)
+        .any(|least| least.starts_with('-'))
+    {
+        found.push("no header: negative readings".to_string());
+    }
+    found
+}
+
+/// Where the end of a read cuts a line of the longest that are read, by the bytes of the line before the cut.
+fn of_cuts(input: &[u8]) -> Vec<String> {
+    let mut found = Vec::new();
+    for cut in (READ..input.len()).step_by(READ) {
+        let before = input[..cut].iter().rev();
+        let place = before.take_while(|&&byte| byte != b'\n').count();
+        let bytes = place + line_bytes(&input[cut..]);
+        if bytes == VALUE_BYTES || bytes == PAIR_BYTES {
+            found.push(format!("line of {bytes} bytes cut at {place}"));
+        }
+    }
+    found
+}

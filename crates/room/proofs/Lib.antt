@@ -5,4 +5,5 @@ pub mod Tests
 pub mod Scanning
 pub mod Sounding
 pub mod Clauses
+pub mod Taking
 pub mod OneOutcome

@@ -10,7 +10,8 @@ use Rattle.rule.specs.Numbers.{word}
 use Rattle.rule.specs.Room.{laid, slots}
 use Rattle.rule.specs.Table.{Choice, Table, nothing, pair, cheapest, limit, merge, mergeAt, mergeOf, readings, runs, settle}
 use Rattle.rule.proofs.Merging.{Answers, no-pair, a-pair, answers, lone-runs, merge-length, merge-readings, merge-runs, settle-merges, settle-rests}
-use Rattle.slots.specs.Slots.{Filled, Settling, placeOf}
+use Rattle.slots.specs.Slots.{Filled, placeOf}
+use Rattle.room.specs.Steps.{Settling}
 use Rattle.rule.proofs.Fitting.{Fitted, fitted-merge}
 use Rattle.slots.proofs.Fitting.{filled-laid, fitted-slots}
 use Rattle.slots.proofs.Laying.{flat-slots, laid-over, laid-within, length-laid, length-slots, slots-laid}

@@ -9,6 +9,7 @@ use Rattle.room.proofs.check.runs_allowed as runs-allowed
 use Rattle.room.proofs.check.limit as limit
 use Rattle.room.proofs.check.sound as sound
 use Rattle.room.proofs.steps.settle as settle
+use Rattle.room.proofs.steps.accept as accept
 use Rattle.room.proofs.steps.find as find
 use Rattle.room.proofs.steps.held as held
 use Rattle.room.proofs.steps.joins as joins
@@ -27,6 +28,9 @@ sound-one M 𝓤 H A mem run κs a g r r′ l l′ = by-result 𝓤
 
 pub settle-one : OneOutcome settle.ended (λ M. settle.clauses)
 settle-one M 𝓤 H A mem run κs a g r r′ l l′ = both 𝓤 (λ p q. (p .0 ∙ sym (q .0), ap (λ x. (l .0, (l .1 .0, (x, l .1 .1 .1)))) (p .1 ∙ sym (q .1))))
+
+pub accept-one : OneOutcome accept.ended (λ M. accept.clauses)
+accept-one M 𝓤 H A mem run κs a g r r′ l l′ = both 𝓤 (λ p q. (p .0 ∙ sym (q .0), ap (λ x. (l .0, (x, l .1 .1))) (p .1 ∙ sym (q .1))))
 
 pub find-one : OneOutcome find.ended (λ M. find.clauses)
 find-one M 𝓤 H A mem run κs a g r r′ l l′ = by-result 𝓤

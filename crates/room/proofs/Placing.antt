@@ -23,7 +23,8 @@ use Rattle.rule.specs.Room.{ranged, slot, slotRanged, slots}
 use Rattle.rule.specs.Table.{Ordered, Table, holders, holding, holds, insert, runs, single}
 use Rattle.rule.proofs.Whole.{whole, by-test, cond-ind}
 use Rattle.rule.proofs.Tables.{before-none, ends-before, eqb-counts, held-none, held-within, heldBefore, holds-counts, insert-runs, leb-counts, one}
-use Rattle.slots.specs.Slots.{Filled, Placed, position}
+use Rattle.slots.specs.Slots.{Filled}
+use Rattle.room.specs.Steps.{Placed, position}
 use Rattle.rule.proofs.Ruling.{and-left, and-right}
 use Rattle.slots.proofs.Laying.{length-slots, unsigned-pos}
 use Rattle.slots.proofs.Reading.{filled, ranges, unsigned-held}

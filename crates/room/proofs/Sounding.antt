@@ -22,7 +22,8 @@ use Rattle.rule.specs.Rules.{equal, ruled}
 use Rattle.rule.specs.Table.{Table, Ordered, cheapest, limit, limitOver, merge, mergeOf, needed, readings, runs, settle, Choice, nothing, pair}
 use Rattle.rule.proofs.Merging.{Enough, merge-readings, settle-keeps, settle-length, settle-runs}
 use Rattle.rule.proofs.Ruling.{Ruled, and-left, and-right, facts-ruled, in-order-runs, ordered-readings, ruled-end, ruled-facts, ruled-ordered, settle-ruled}
-use Rattle.slots.specs.Slots.{Filled, Settling}
+use Rattle.slots.specs.Slots.{Filled}
+use Rattle.room.specs.Steps.{Settling}
 use Rattle.rule.proofs.Fitting.{Fitted, fitted-merge}
 use Rattle.slots.proofs.Fitting.{filled-laid}
 use Rattle.slots.proofs.Laying.{laid-more, length-flat, length-laid, slots-laid}

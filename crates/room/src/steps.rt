@@ -1,4 +1,4 @@
-// The merges that a reading asks for, the place of a tick among the slots in use, and what a reading there touches.
+// What an accepted reading does to the room, the place of a tick among the slots in use, and what a reading there touches.
 ghost use mathlib.Core.Path.{_≡_};
 ghost use mathlib.Core.Bool.{_&&_};
 ghost use Prim.Native.Nat.{_+_, _*_, _-_, _<_, _≤_, suc};
@@ -7,13 +7,17 @@ ghost use lib.IntN.{ℤ};
 ghost use lib.ListN.{length};
 ghost use Rattle.rule.specs.Bucket.{end};
 ghost use Rattle.rule.specs.Calls.{isHeld};
-ghost use Rattle.rule.specs.Room.{laid, slot, slots};
-ghost use Rattle.rule.specs.Table.{holders, holding, insert, runs, settle, single};
-ghost use Rattle.slots.specs.Slots.{Filled, Placed, Settling, position};
+ghost use Rattle.rule.specs.Room.{laid, slot, slots, tableOf};
+ghost use Rattle.rule.specs.Table.{accept, holders, holding, insert, needed, runs, settle, single};
+ghost use Rattle.slots.specs.Slots.{Filled};
+ghost use Rattle.room.specs.Steps.{Placed, Ready, Settling, position};
 use crate::check::limit;
+use rule::Bucket;
 use rule::SLOT;
 use rule::Settings;
+use rule::State;
 use slots::cheapest;
+use slots::moves::insert;
 use slots::moves::merge;
 use slots::read;
 
@@ -30,6 +34,22 @@ pub fn settle(s: Settings, runs: usize, room: &mut [i64], used: usize) -> usize
         left -= 1;
     }
     left
+}
+
+// What an accepted reading does to the room: it goes to its place, then the cheapest neighbours are merged while the buckets are more than the limit. Answers how many buckets there are then.
+pub fn accept(s: State, room: &mut [i64], at: usize, runs: usize, tick: u32, value: i32) -> usize
+    requires { ⌜ Ready s (now room) at runs tick value ⌝ }
+    ensures { λ r. ⌜ (r ≡ length (accept (s .settings) (tableOf s (now (room .entry))) tick value)) × (now (room .exit) ≡ laid (needed (s .settings)) (accept (s .settings) (tableOf s (now (room .entry))) tick value) (now (room .entry))) ⌝ }
+{
+    let b = Bucket {
+        start: tick,
+        count: 1,
+        least: value,
+        largest: value,
+    };
+    insert(&mut *room, s.used, at, b);
+    let settings = s.settings;
+    settle(settings, runs, &mut *room, s.used + 1)
 }
 
 // How many buckets start at the tick or before it: the place where a reading of the tick goes.

@@ -19,9 +19,9 @@ use Rattle.room.proofs.Sounding.{sound-facts, sound-readings}
 use Rattle.trace.specs.declared.Answer.{Answer}
 use Rattle.trace.specs.Answers.{answer}
 use Rattle.trace.specs.Left.{LeavesSound, LeftBy}
-use Rattle.trace.specs.Ready.{Ready}
+use Rattle.room.specs.Steps.{Ready}
 use Rattle.trace.proofs.Leaving.{late-either, next-either, open-leaves, past-refusal}
-use Rattle.trace.proofs.Taking.{taken-short, taken-sound, taken-state}
+use Rattle.room.proofs.Taking.{taken-short, taken-sound, taken-state}
 use Rattle.tally.specs.Session.{AlwaysTallied, CallsLeave, GrownTally, Reading, Session, TrueTally, acceptedAmong, acceptedOne, after, begun, late, left, next, onward, outcome, refusedAmong, refusedOne, verdict}
 
 -- ---- how the counts grow, on any state and room with any tally

@@ -18,12 +18,13 @@ use Rattle.rule.specs.Rules.{ruled}
 use Rattle.rule.specs.Table.{Table, accept, holders, holding, insert, runs, single}
 use Rattle.rule.proofs.Ruling.{Ruled, and-right, facts-ruled, late-ruled}
 use Rattle.rule.proofs.Tables.{one}
-use Rattle.slots.specs.Slots.{Filled, Placed, position}
+use Rattle.slots.specs.Slots.{Filled}
+use Rattle.room.specs.Steps.{Placed, position}
 use Rattle.slots.proofs.Laying.{length-slots}
 use Rattle.room.proofs.Placing.{held-counts, insert-at, place-within}
 use Rattle.room.proofs.Sounding.{Facts, sound-facts, sound-filled, sound-ordered}
 use Rattle.trace.proofs.Finding.{sound-placed}
-use Rattle.trace.specs.Ready.{Ready, with}
+use Rattle.room.specs.Steps.{Ready, with}
 
 -- ---- by the kind
 

@@ -11,7 +11,7 @@ use Rattle.rule.specs.declared.State.{State}
 use Rattle.rule.specs.Calls.{isHeld}
 use Rattle.rule.specs.Room.{slot, slots, sound, tableOf}
 use Rattle.rule.specs.Table.{holding}
-use Rattle.slots.specs.Slots.{Placed, position}
+use Rattle.room.specs.Steps.{Placed, position}
 use Rattle.room.proofs.Placing.{slot-first, slot-held, slot-holding}
 use Rattle.room.proofs.Sounding.{sound-facts, sound-filled, sound-ordered}
 

@@ -1,9 +1,10 @@
 -- The next reading of a sound trace in order is ready to be taken: it goes to the end, and there is one run.
-use Prim.Native.Nat.{ℕ, suc, _<_, _≤_}
+use Prim.Native.Nat.{ℕ, zero, suc, _+_, _-_, _<_, _≤_}
 use mathlib.Core.Path.{_≡_, refl, sym, ap, _∙_, subst}
 use mathlib.Core.Bool.{true, false, true≢false}
 use mathlib.Core.List.{List, [], _∷_, _++_}
 use native.Mathlib.Omega.{arith}
+use native.Mathlib.Nat.{add-zero, zero-add}
 use lib.IntN.{ℤ}
 use lib.ListN.{length, drop-of-length-le}
 use lib.Seq.{take-all}
@@ -14,13 +15,24 @@ use Rattle.rule.specs.declared.State.{State}
 use Rattle.rule.specs.Bucket.{end}
 use Rattle.rule.specs.Calls.{late}
 use Rattle.rule.specs.Numbers.{ticks}
-use Rattle.rule.specs.Room.{runsAllowed, sound, tableOf}
+use Rattle.rule.specs.Room.{runsAllowed, slot, slots, sound, tableOf}
 use Rattle.rule.specs.Rules.{ruled}
-use Rattle.rule.specs.Table.{Table, insert, nextTick, runs, runsAfter, single}
+use Rattle.rule.specs.Table.{Table, insert, lastEnd, nextTick, runs, runsAfter, single}
 use Rattle.rule.proofs.Ruling.{Ruled, facts-ruled, in-order-runs, insert-last, next-ruled}
 use Rattle.slots.proofs.Laying.{length-slots}
 use Rattle.room.proofs.Sounding.{sound-facts, sound-ordered}
-use Rattle.trace.specs.Ready.{Ready}
+use Rattle.room.specs.Steps.{Ready}
+
+-- the last of n + 1 slots ends where the table ends
+last-end : (l : List ℤ) (e i n : ℕ) → lastEnd e (slots l i (suc n)) ≡ end (slot l (i + n))
+unfolding slots lastEnd
+last-end l e i zero = ap (λ (k : ℕ). end (slot l k)) (sym (add-zero i))
+last-end l e i (suc n) = last-end l (end (slot l i)) (suc i) n ∙ ap (λ (k : ℕ). end (slot l k)) (omega arith)
+
+pub last-slot : (l : List ℤ) (n : ℕ) → (n ≡ 0 → ⊥) → lastEnd 0 (slots l 0 n) ≡ end (slot l (n - 1))
+last-slot l n h =
+    let more : n ≡ suc (n - 1) = omega arith in
+    ap (λ (k : ℕ). lastEnd 0 (slots l 0 k)) more ∙ last-end l 0 0 (n - 1) ∙ ap (λ (k : ℕ). end (slot l k)) (zero-add (n - 1))
 
 in-order-one : (t : Table) (b : Bucket) → Ruled InOrder 0 (t ++ (b ∷ [])) → runs (t ++ (b ∷ [])) ≡ 1
 unfolding runs runsAfter Ruled

@@ -20,14 +20,14 @@ use Rattle.rule.specs.Numbers.{ticks, word}
 use Rattle.rule.specs.Room.{gapsGood, laid, ranged, roomy, runsAllowed, slots, sound, stepsGood, tableOf}
 use Rattle.rule.specs.Table.{Table, accept, holding, needed, nextTick, readings, runs}
 use Rattle.rule.proofs.Ruling.{Ruled}
-use Rattle.slots.specs.Slots.{position}
+use Rattle.room.specs.Steps.{position}
 use Rattle.slots.proofs.Laying.{length-laid}
 use Rattle.room.proofs.Sounding.{facts-sound, rest-laid}
 use Rattle.trace.specs.Left.{LeavesSound, LeftBy}
-use Rattle.trace.specs.Ready.{Ready, with}
+use Rattle.room.specs.Steps.{Ready, with}
 use Rattle.trace.proofs.Arriving.{Passed, late-ready}
 use Rattle.trace.proofs.Following.{next-ready}
-use Rattle.trace.proofs.Taking.{taken-sound}
+use Rattle.room.proofs.Taking.{taken-sound}
 
 -- what holds of a refusal, and of the rest where the test fails, holds of both
 pub past-refusal : {A : Type 0} (P : Verdict A → Type 0) (c : Bool) (r : Refusal) (v : Verdict A) → P (refused r) → (c ≡ false → P v) → P (refuse c r v)

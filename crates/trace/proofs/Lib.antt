@@ -1,5 +1,4 @@
 -- Laws that belong to no one function.
-pub mod Taking
 pub mod Following
 pub mod Arriving
 pub mod Finding

@@ -6,7 +6,7 @@ ghost use Rattle.rule.specs.Room.{laid, slots, tableOf};
 ghost use Rattle.rule.specs.Table.{accept, needed, nextTick};
 ghost use Rattle.slots.specs.Slots.{Filled};
 ghost use Rattle.trace.specs.Answers.{answered};
-ghost use Rattle.trace.specs.Ready.{Ready};
+ghost use Rattle.room.specs.Steps.{Ready};
 
 mod files;
 mod settings;
@@ -15,10 +15,10 @@ use crate::settings::Admitted;
 use crate::settings::admit;
 use crate::settings::kept;
 use room::check::sound;
+use room::steps::accept;
 use room::steps::find;
 use room::steps::held;
 use room::steps::joins;
-use room::steps::settle;
 use rule::Bucket;
 use rule::Found;
 use rule::Kind;
@@ -27,7 +27,6 @@ use rule::SLOT;
 use rule::Settings;
 use rule::State;
 use slots::moves::clear;
-use slots::moves::insert;
 use slots::read;
 
 // The last tick that a trace can hold.
@@ -97,7 +96,7 @@ impl Trace {
         }
     }
 
-    // The reading goes to its place, then the cheapest neighbours are merged while the buckets are more than the limit.
+    // The state after a reading whose effect on the room is `accept`'s.
     pub(crate) fn accept(
         mut self,
         room: &mut [i64],
@@ -111,14 +110,7 @@ impl Trace {
     {
         let s = self.state;
         let settings = s.settings;
-        let b = Bucket {
-            start: tick,
-            count: 1,
-            least: value,
-            largest: value,
-        };
-        insert(&mut *room, s.used, at, b);
-        let used = settle(settings, runs, &mut *room, s.used + 1);
+        let used = accept(s, &mut *room, at, runs, tick, value);
         let state = State {
             settings,
             used,

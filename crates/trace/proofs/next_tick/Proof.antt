@@ -5,7 +5,7 @@ use mathlib.Core.Path.{sym}
 use Rattle.rule.specs.Room.{slots}
 use Rattle.rule.specs.Table.{lastEnd}
 use Rattle.slots.proofs.Reading.{filled}
-use Rattle.trace.proofs.Taking.{last-slot}
+use Rattle.trace.proofs.Following.{last-slot}
 use borrow.Author.Needs.{needs}
 use Rattle.trace.proofs.next_tick.Statement.{statement}
 use Rattle.trace.proofs.next_tick.Tie as tie

@@ -10,11 +10,11 @@ use Rattle.rule.specs.Calls.{isHeld, late, lateVerdict, refuse, traced}
 use Rattle.rule.specs.Numbers.{ticks}
 use Rattle.rule.specs.Room.{sound, tableOf}
 use Rattle.rule.specs.Table.{holding, runs}
-use Rattle.slots.specs.Slots.{Placed}
+use Rattle.room.specs.Steps.{Placed}
 use Rattle.room.proofs.Tests.{flipped}
 use Rattle.trace.specs.declared.Answer.the-variants.{Accepted}
 use Rattle.trace.specs.Answers.{answer}
-use Rattle.trace.specs.Ready.{with}
+use Rattle.room.specs.Steps.{with}
 use Rattle.trace.proofs.Arriving.{Passed, late-filled, late-free, late-joins, late-left, late-placed, late-ready, late-runs, late-truth}
 use Rattle.trace.proofs.Trace.late.Statement.{statement}
 use Rattle.trace.proofs.Trace.late.Tie as tie

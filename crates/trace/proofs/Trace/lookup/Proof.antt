@@ -9,7 +9,7 @@ use Rattle.rule.specs.Calls.{found, foundOf, isHeld, lookupOutcome, refuse}
 use Rattle.rule.specs.Numbers.{ticks}
 use Rattle.rule.specs.Room.{sound, tableOf}
 use Rattle.rule.specs.Table.{holding}
-use Rattle.slots.specs.Slots.{Placed}
+use Rattle.room.specs.Steps.{Placed}
 use Rattle.room.proofs.Placing.{filled-before}
 use Rattle.slots.proofs.Reading.{filled}
 use Rattle.room.proofs.Sounding.{sound-facts, sound-filled}

@@ -1,41 +1,28 @@
--- The inner step of an accepted reading, over lists: what the insertion and the merges leave is the table after the reading, laid, and the trace is sound again.
-use Prim.Native.Nat.{ℕ, zero, suc, _+_, _-_, _≤_, _<_}
+-- An accepted reading's effect on the room, over lists: what the insertion and the merges leave is the table after the reading, laid, and the trace is sound again.
+use Prim.Native.Nat.{ℕ, suc, _+_, _≤_, _<_}
 use mathlib.Core.Path.{_≡_, sym, ap, _∙_, subst}
 use mathlib.Core.Bool.{true}
 use mathlib.Core.List.{List, _∷_, _++_}
 use native.Mathlib.Omega.{arith}
-use native.Mathlib.Nat.{zero-add}
 use lib.IntN.{ℤ}
 use lib.ListN.{length, take, drop}
 use mir.Syntax.{w32}
 use mir.Val.{SFits}
 use Rattle.rule.specs.declared.State.{State}
-use Rattle.rule.specs.Bucket.{end}
 use Rattle.rule.specs.Calls.{stateOf}
 use Rattle.rule.specs.Numbers.{word}
-use Rattle.rule.specs.Room.{laid, runsAllowed, slot, slots, sound, tableOf}
+use Rattle.rule.specs.Room.{laid, runsAllowed, slots, sound, tableOf}
 use Rattle.rule.specs.Rules.{ruled}
-use Rattle.rule.specs.Table.{Table, accept, lastEnd, needed, readings, runs, settle, single}
+use Rattle.rule.specs.Table.{Table, accept, needed, readings, runs, settle, single}
 use Rattle.rule.proofs.Merging.{settle-length, settle-readings, settle-runs}
 use Rattle.rule.proofs.Ruling.{Ruled, ruled-facts}
 use Rattle.rule.proofs.Tables.{insert-length, insert-readings}
-use Rattle.slots.specs.Slots.{Settling}
+use Rattle.room.specs.Steps.{Settling}
 use Rattle.rule.proofs.Fitting.{Fitted, fitted-insert}
 use Rattle.slots.proofs.Fitting.{fitted-slots}
 use Rattle.slots.proofs.Laying.{laid-laid, length-slots, slots-laid}
 use Rattle.room.proofs.Sounding.{Facts, enough, laid-needed, settled-sound, settling, sound-facts}
-use Rattle.trace.specs.Ready.{Ready, with}
-
--- the last of n + 1 slots ends where the table ends
-last-end : (l : List ℤ) (e i n : ℕ) → lastEnd e (slots l i (suc n)) ≡ end (slot l (i + n))
-unfolding slots lastEnd
-last-end l e i zero = ap (λ (k : ℕ). end (slot l k)) (sym (native.Mathlib.Nat.add-zero i))
-last-end l e i (suc n) = last-end l (end (slot l i)) (suc i) n ∙ ap (λ (k : ℕ). end (slot l k)) (omega arith)
-
-pub last-slot : (l : List ℤ) (n : ℕ) → (n ≡ 0 → ⊥) → lastEnd 0 (slots l 0 n) ≡ end (slot l (n - 1))
-last-slot l n h =
-    let more : n ≡ suc (n - 1) = omega arith in
-    ap (λ (k : ℕ). lastEnd 0 (slots l 0 k)) more ∙ last-end l 0 0 (n - 1) ∙ ap (λ (k : ℕ). end (slot l k)) (zero-add (n - 1))
+use Rattle.room.specs.Steps.{Ready, with}
 
 -- the buckets with the new one at a place
 abbrev pub placed : State → List ℤ → ℕ → ℕ → ℤ → Table
@@ -72,21 +59,26 @@ module _ (s : State) (l : List ℤ) (at k tick : ℕ) (v : ℤ) (r : Ready s l a
       subst (λ (n : ℕ). Settling (s .settings) n (laid (suc (s .used)) (placed s l at tick v) l) (suc (s .used))) (sym (r .truth))
       (subst (λ (t : Table). Settling (s .settings) (runs u) (laid (suc (s .used)) t l) (suc (s .used))) (r .place) (settling s l facts u longer fitted rules allowed))
 
-  -- the state and the room that are left
-  pub taken-state : stateOf (s .settings) (accept (s .settings) (tableOf s l) tick v) ≡ record { settings = s .settings; used = length (settle (s .settings) (slots (laid (suc (s .used)) (placed s l at tick v) l) 0 (suc (s .used)))); runs = k; readings = s .readings + 1 }
+  -- the state that is left
+  pub taken-state : stateOf (s .settings) (accept (s .settings) (tableOf s l) tick v) ≡ record { settings = s .settings; used = length (accept (s .settings) (tableOf s l) tick v); runs = k; readings = s .readings + 1 }
   unfolding accept
   taken-state =
       let e = enough s l facts u longer fitted rules allowed in
       let one-more : readings u ≡ 1 + readings (tableOf s l) = insert-readings (single tick v) (tableOf s l) in
       λ i. record {
         settings = s .settings;
-        used = ap (λ (t : Table). length (settle (s .settings) t)) (sym found) i;
+        used = length (settle (s .settings) u);
         runs = (settle-runs (s .settings) u e ∙ sym (r .truth)) i;
         readings = more (settle-readings (s .settings) u e) one-more (facts .true-readings) i;
       }
     where
       more : {a b c d : ℕ} → a ≡ b → b ≡ 1 + c → d ≡ c → a ≡ d + 1
       more p q w = omega arith
+
+  -- what the merges answer, and the room that is left
+  pub taken-used : length (settle (s .settings) (slots (laid (suc (s .used)) (placed s l at tick v) l) 0 (suc (s .used)))) ≡ length (accept (s .settings) (tableOf s l) tick v)
+  unfolding accept
+  taken-used = ap (λ (t : Table). length (settle (s .settings) t)) found
 
   pub taken-short : length (accept (s .settings) (tableOf s l) tick v) ≤ suc (s .used)
   unfolding accept

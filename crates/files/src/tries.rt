@@ -140,7 +140,7 @@ fn save_short(trace: Trace, length: usize, room: &[i64], out: &mut [u8], counts:
     }
     let short = length - 1;
     if short <= out.len() {
-        let w = trace.save(room, &mut out[0..short]);
+        let w = saved::save(trace, room, &mut out[0..short]);
         tell_written(w, counts);
         counts[13] = with_bytes(counts[13], out);
     }
@@ -149,7 +149,7 @@ fn save_short(trace: Trace, length: usize, room: &[i64], out: &mut [u8], counts:
 fn save(trace: Trace, file: &[u8], room: &[i64], out: &mut [u8], counts: &mut [u64; 14]) {
     fill_bytes(&mut *out);
     save_short(trace, file.len(), room, &mut *out, counts);
-    let w = trace.save(room, &mut *out);
+    let w = saved::save(trace, room, &mut *out);
     tell_written(w, counts);
     counts[13] = with_bytes(counts[13], out);
     if equal(file, out) {
@@ -160,7 +160,7 @@ fn save(trace: Trace, file: &[u8], room: &[i64], out: &mut [u8], counts: &mut [u
 // What a load answers and leaves, and what the trace then saves to.
 fn load(settings: Settings, file: &[u8], room: &mut [i64], out: &mut [u8], counts: &mut [u64; 14]) {
     fill_room(&mut *room);
-    let answer = Trace::load(settings, file, &mut *room);
+    let answer = saved::load(settings, file, &mut *room);
     count(0, counts);
     match answer {
         Answer::Refused(refusal) => {

@@ -226,7 +226,7 @@ pub extern "C" fn ndz_save(state: Fields, room: &[i64], out: &mut [u8]) -> Count
     ensures { λ r. ⌜ (r, now (out .exit)) ≡ saveReply state (now (room .entry)) (now (out .entry)) ⌝ }
 {
     let trace = trace_of(state);
-    telling(trace.save(room, &mut *out))
+    telling(saved::save(trace, room, &mut *out))
 }
 
 #[no_mangle]
@@ -240,5 +240,5 @@ pub extern "C" fn ndz_load(
     ensures { λ r. ⌜ (r, now (room .exit)) ≡ loadReply kind steps gaps (now (file .entry)) (now (room .entry)) ⌝ }
 {
     let named = settings_of(kind, steps, gaps);
-    replying(none(), Trace::load(named, file, &mut *room))
+    replying(none(), saved::load(named, file, &mut *room))
 }

@@ -18,7 +18,7 @@ use Rattle.rule.specs.declared.State.{State}
 use Rattle.rule.specs.declared.Tally.{Tally}
 use Rattle.rule.specs.Answers.{number, place}
 use Rattle.rule.specs.Bytes.{recordsOf, saved}
-use Rattle.rule.specs.Calls.{Verdict, accepted, admitted, counted, found, foundOf, gapsKept, grown, isHeld, kept, late, lateVerdict, loaded, loadVerdict, lookupOutcome, nextVerdict, refuse, refuseFault, refused, traced, writeVerdict, wrote}
+use Rattle.rule.specs.Calls.{Verdict, accepted, admitted, counted, fileVerdict, found, foundOf, gapsKept, grown, isHeld, kept, late, lateVerdict, loaded, loadVerdict, lookupOutcome, nextVerdict, refuse, refuseFault, refused, traced, writeVerdict, wrote}
 use Rattle.rule.specs.Numbers.{most, recordWidth, slotWidth, tallyMost, ticks}
 use Rattle.rule.specs.Files.{Finds, FirstBroken, meets}
 use Rattle.rule.specs.Room.{flat, gapsBounded, gapsGood, roomy, runsAllowed, sound, stepsGood, tableOf}
@@ -141,7 +141,7 @@ told t used (accepted s) r e = absurd (none-given r e)
 -- ---- load, and 8's place
 
 loading : (g : Settings) (file : List ℕ) (l : List ℤ) → said (loadVerdict (kept g) file l) ≡ firstOf (openRows g l ++ fileRows g file)
-unfolding loadVerdict ruled
+unfolding fileVerdict ruled
 loading g file l =
     admits g l _ _
     (link (not (eqb (length file % recordWidth) 0)) _ Refusal.Length _ _ refl (λ a.
@@ -182,7 +182,7 @@ loaded-said : (g : Settings) (file : List ℕ) (l : List ℤ) → said (loaded g
 loaded-said g file l = answered (kept g) l (loadVerdict (kept g) file l) (openRows g l ++ fileRows g file) (loading g file l) .exactly
 
 pub demand1 : Demand1
-unfolding nextVerdict lateVerdict lookupOutcome writeVerdict loadVerdict ruled
+unfolding nextVerdict lateVerdict lookupOutcome writeVerdict ruled
 demand1 = record {
   opens = λ g l. answered (kept g) l (admitted (kept g) l (accepted [])) (openRows g l) (admits g l (accepted []) [] (nothing []));
   nexts = λ s l v. answered (s .settings) l (nextVerdict s l v) (nextRows s l)

@@ -31,7 +31,7 @@ use Rattle.room.proofs.Placing.{held-counts}
 use Rattle.room.proofs.Sounding.{sound-facts, sound-ordered}
 use Rattle.row.specs.Parts.{numbersOutcome}
 use Rattle.trace.specs.Answers.{answer, answered}
-use Rattle.trace.proofs.RoundTrips.{loaded-saved, saved-loaded}
+use Rattle.saved.proofs.RoundTrips.{loaded-saved, saved-loaded}
 use Rattle.demands.specs.History.{Reading, arrived}
 use Rattle.ndezulangi.specs.declared.Counted.{Counted}
 use Rattle.ndezulangi.specs.declared.Fields.{Fields}

@@ -27,9 +27,10 @@ use Rattle.rule.proofs.Whole.{by-test}
 use Rattle.slots.proofs.Laying.{length-slots, slots-laid}
 use Rattle.room.proofs.Placing.{held-counts}
 use Rattle.rule.proofs.Signed.{signed-fits}
-use Rattle.room.proofs.Sounding.{Facts, sound-facts, sound-ordered, steps-bounds}
+use Rattle.room.proofs.Sounding.{Facts, sound-facts, sound-ordered}
+use Rattle.settings.proofs.Bounds.{steps-bounds}
 use Rattle.trace.specs.Left.{LeavesSound, LeftBy}
-use Rattle.trace.proofs.RoundTrips.{saved-accepted}
+use Rattle.saved.proofs.RoundTrips.{saved-accepted}
 use Rattle.trace.proofs.Leaving.{late-leaves, next-leaves, open-leaves}
 use Rattle.demands.specs.History.{Accepted, Reading, Takes, arrived, runsOf, tableAfter}
 use Rattle.demands.specs.Served.{Near, Served, Shown}

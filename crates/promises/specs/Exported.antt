@@ -14,7 +14,7 @@ use Rattle.rule.specs.Files.{FirstBroken}
 use Rattle.rule.specs.Numbers.{recordWidth, slotWidth, ticks}
 use Rattle.rule.specs.Room.{flat, signed, sound}
 use Rattle.rule.specs.Table.{Table, limit, needed}
-use Rattle.trace.specs.Bytes.{AllBytes}
+use Rattle.saved.specs.Bytes.{AllBytes}
 use Rattle.demands.specs.Curve as curve
 use Rattle.demands.specs.Curve.{Curve}
 use Rattle.demands.specs.History.{Reading, arrived, runsOf, tableAfter}
@@ -63,7 +63,7 @@ pub record ExportedDemand1 : Type 0 where
       Replies (openRows (settingsOf kind steps gaps) l ++ fileRows (settingsOf kind steps gaps) file) none l (o .1) (o .0)
   -- 8: the record at its place is the file's, it breaks a rule, and all before it meet them
   pub places : (kind steps gaps : ℕ) (file : List ℕ) (l : List ℤ) → let r = loadReply kind steps gaps file l .0 in r .refusal ≡ 8 → FirstBroken (kindOf kind) file (r .place)
-  -- the zeros that a refused open or load hands back are sound with no room, so no call accepts them
+  -- the zeros that a refused open or load hands back are sound in no room, so no call accepts them
   pub unsound : (l : List ℤ) → sound (stateOf none) l ≡ false
   pub unusable : (l : List ℤ) (tick : ℕ) (v : ℤ) (out : List ℤ) (bytes : List ℕ)
       → nextReply none l v .0 .refusal ∷ lateReply none l tick v .0 .refusal ∷ lookupReply none l tick .refusal ∷ rowReply none l out .0 .refusal ∷ saveReply none l bytes .0 .refusal ∷ []

@@ -8,17 +8,15 @@ use lib.Dec.{leb}
 use lib.IntN.{ℤ}
 use lib.ListN.{getD}
 use Rattle.rule.specs.declared.State.{State}
-use Rattle.rule.specs.Numbers.{most}
 use Rattle.rule.specs.Room.{allOf, clauses, gapsGood, restZero, roomy, runsAllowed, sound, stepsGood}
 use Rattle.rule.specs.Table.{limit}
 use Rattle.room.proofs.Tests.{fails}
 use Rattle.room.proofs.Scanning.{scanned}
-use Rattle.room.proofs.Sounding.{gaps-small, limit-gaps}
+use Rattle.settings.proofs.Bounds.{limit-gaps, needed-small}
 
 abbrev pub tests : State → List ℤ → List Bool
 tests s l =
-    leb 1 (s .settings .steps)
-    ∷ leb (s .settings .steps) most
+    stepsGood (s .settings)
     ∷ gapsGood (s .settings .kind) (s .settings .gaps)
     ∷ runsAllowed (s .settings .kind) (s .settings .gaps) (s .runs)
     ∷ roomy (s .settings) l
@@ -28,7 +26,7 @@ tests s l =
     ∷ []
 
 pub sound-tests : (s : State) (l : List ℤ) → sound s l ≡ allOf (tests s l)
-unfolding sound clauses stepsGood allOf
+unfolding sound clauses allOf
 sound-tests s l = simp and-assoc
 
 pub unsound : (s : State) (l : List ℤ) (i : ℕ) → getD (tests s l) i true ≡ false → false ≡ sound s l
@@ -40,8 +38,8 @@ pub record Limits (s : State) : Type 0 where
   pub small : limit (s .settings) (s .settings .gaps) ≤ 768
   pub grows : limit (s .settings) (s .runs) ≤ limit (s .settings) (s .settings .gaps)
 
-pub limits : (s : State) → s .settings .steps ≤ most → gapsGood (s .settings .kind) (s .settings .gaps) ≡ true
+pub limits : (s : State) → stepsGood (s .settings) ≡ true → gapsGood (s .settings .kind) (s .settings .gaps) ≡ true
     → runsAllowed (s .settings .kind) (s .settings .gaps) (s .runs) ≡ true → Limits s
 limits s h g r =
     let t = s .settings in
-    record { small = omega (arith, gaps-small (t .kind) (2 * t .steps) (t .gaps) g); grows = limit-gaps (t .kind) (2 * t .steps) (t .gaps) (s .runs) r }
+    record { small = omega (arith, needed-small t h g); grows = limit-gaps (t .kind) (2 * t .steps) (t .gaps) (s .runs) r }

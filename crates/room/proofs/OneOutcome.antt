@@ -4,24 +4,12 @@ use native.Mathlib.Omega.{arith}
 use lib.IntN.{pos}
 use Rattle.rule.specs.Outcomes.{OneOutcome}
 use Rattle.rule.proofs.Determined.{both, by-result}
-use Rattle.room.proofs.check.gaps_good as gaps-good
-use Rattle.room.proofs.check.runs_allowed as runs-allowed
-use Rattle.room.proofs.check.limit as limit
 use Rattle.room.proofs.check.sound as sound
 use Rattle.room.proofs.steps.settle as settle
 use Rattle.room.proofs.steps.accept as accept
 use Rattle.room.proofs.steps.find as find
 use Rattle.room.proofs.steps.held as held
 use Rattle.room.proofs.steps.joins as joins
-
-pub gaps-good-one : OneOutcome gaps-good.ended (λ M. gaps-good.clauses)
-gaps-good-one M 𝓤 H A mem run κs a g r r′ l l′ = by-result 𝓤
-
-pub runs-allowed-one : OneOutcome runs-allowed.ended (λ M. runs-allowed.clauses)
-runs-allowed-one M 𝓤 H A mem run κs a g r r′ l l′ = by-result 𝓤
-
-pub limit-one : OneOutcome limit.ended (λ M. limit.clauses)
-limit-one M 𝓤 H A mem run κs a g r r′ l l′ = by-result 𝓤
 
 pub sound-one : OneOutcome sound.ended (λ M. sound.clauses)
 sound-one M 𝓤 H A mem run κs a g r r′ l l′ = by-result 𝓤

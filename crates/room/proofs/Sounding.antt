@@ -22,6 +22,7 @@ use Rattle.rule.specs.Rules.{equal, ruled}
 use Rattle.rule.specs.Table.{Table, Ordered, cheapest, limit, limitOver, merge, mergeOf, needed, readings, runs, settle, Choice, nothing, pair}
 use Rattle.rule.proofs.Merging.{Enough, merge-readings, settle-keeps, settle-length, settle-runs}
 use Rattle.rule.proofs.Ruling.{Ruled, and-left, and-right, facts-ruled, in-order-runs, ordered-readings, ruled-end, ruled-facts, ruled-ordered, settle-ruled}
+use Rattle.settings.proofs.Bounds.{limit-gaps, needed-small, steps-bounds}
 use Rattle.slots.specs.Slots.{Filled}
 use Rattle.room.specs.Steps.{Settling}
 use Rattle.rule.proofs.Fitting.{Fitted, fitted-merge}
@@ -78,27 +79,6 @@ facts-sound s l f =
       eq-eqb (s .readings) (readings (tableOf s l)) (f .true-readings),
       f .rest,
     )
-
--- ---- numbers
-
--- the limit grows with the runs, which are at most K
-pub limit-gaps : (k : Kind) (base gaps runs : ℕ) → runsAllowed k gaps runs ≡ true → limitOver k base runs ≤ limitOver k base gaps
-unfolding runsAllowed limitOver
-limit-gaps InOrder base gaps runs h = omega arith
-limit-gaps Late base gaps runs h = omega (arith, leb-true runs gaps h)
-
-pub gaps-small : (k : Kind) (base gaps : ℕ) → gapsGood k gaps ≡ true → limitOver k base gaps ≤ base + 256
-unfolding gapsGood gapsBounded limitOver
-gaps-small InOrder base gaps h = omega arith
-gaps-small Late base gaps h = omega (arith, leb-true gaps 256 (and-right (leb 1 gaps) (leb gaps 256) h))
-
-pub steps-bounds : (s : Settings) → stepsGood s ≡ true → (1 ≤ s .steps) × (s .steps ≤ 256)
-unfolding stepsGood
-steps-bounds s h = (leb-true 1 (s .steps) (and-left (leb 1 (s .steps)) (leb (s .steps) 256) h), leb-true (s .steps) 256 (and-right (leb 1 (s .steps)) (leb (s .steps) 256) h))
-
--- the limit at the most runs allowed is small
-pub needed-small : (s : Settings) → stepsGood s ≡ true → gapsGood (s .kind) (s .gaps) ≡ true → needed s ≤ 769
-needed-small s h k = omega (arith, steps-bounds s h, gaps-small (s .kind) (2 * s .steps) (s .gaps) k)
 
 zero-part : (a b : ℕ) (l : List ℤ) → allZero (take (a + b) l) ≡ true → allZero (take b (drop a l)) ≡ true
 unfolding allZero

@@ -1,7 +1,7 @@
 -- Laws of tests: a list of them that all must hold, and 0 as its bits tell it.
 use Prim.Native.Nat.{ℕ, zero, suc}
 use mathlib.Core.Path.{_≡_, sym}
-use mathlib.Core.Bool.{Bool, true, false, not, Bool·not-not, and-false}
+use mathlib.Core.Bool.{Bool, true, false, and-false}
 use mathlib.Core.List.{List, [], _∷_}
 use mathlib.Core.Logic.{_⊎_, ⊎-elim}
 use native.Mathlib.Omega.{arith}
@@ -14,10 +14,6 @@ use Rattle.rule.specs.Room.{allOf}
 -- two ways that meet, the sum first so that each way's type is known where it is read
 pub came {ℓ} : {A B : Type 0} {P : Type ℓ} → A ⊎ B → (A → P) → (B → P) → P
 came w f g = ⊎-elim f g w
-
--- a test as the code branches on it, negated
-pub flipped : {r a v : Bool} → r ≡ a → not r ≡ v → a ≡ not v
-flipped {r} p h = rw (← h, ← p) (sym (Bool·not-not r))
 
 -- a test that fails is enough
 pub fails : (l : List Bool) (i : ℕ) → getD l i true ≡ false → allOf l ≡ false

@@ -1,22 +1,25 @@
 // The one pass that says whether state and room are sound, for any state fields and any numbers.
 ghost use mathlib.Core.Path.{_≡_};
-ghost use Prim.Native.Nat.{_+_, _*_, _-_, _<_, _≤_, _^_, suc};
+ghost use Prim.Native.Nat.{_+_, _*_, _-_, _≤_, suc};
 ghost use lib.ListN.{length, take, drop};
 ghost use Rattle.rule.specs.Numbers.{slotWidth};
 ghost use mathlib.Core.Bool.{_&&_};
 ghost use lib.Dec.{eqb};
 ghost use Rattle.rule.specs.Rules.{ruled, rules};
-ghost use Rattle.rule.specs.Room.{allOf, allZero, gapsGood, ranged, runsAllowed, signed, slotRanged, slots, sound, unsigned};
-ghost use Rattle.rule.specs.Table.{limit, readings, runs, runsAfter};
+ghost use Rattle.rule.specs.Room.{allOf, allZero, ranged, signed, slotRanged, slots, sound, unsigned};
+ghost use Rattle.rule.specs.Table.{readings, runs, runsAfter};
 use rule::Bucket;
 use rule::Kind;
-use rule::MOST;
 use rule::SLOT;
-use rule::Settings;
 use rule::State;
 use rule::TICKS;
 use rule::follows;
 use rule::starts_run;
+use settings::gaps_good;
+use settings::limit;
+use settings::needed;
+use settings::runs_allowed;
+use settings::steps_good;
 use slots::read;
 
 pub(crate) fn unsigned(z: i64) -> bool
@@ -85,36 +88,6 @@ pub(crate) fn meets(kind: Kind, end: usize, b: Bucket) -> bool
     follows(kind, end, b)
 }
 
-pub fn gaps_good(kind: Kind, gaps: usize) -> bool
-    ensures { λ r. ⌜ r ≡ gapsGood kind gaps ⌝ }
-{
-    match kind {
-        Kind::InOrder => gaps == 0,
-        Kind::Late => 1 <= gaps && gaps <= MOST,
-    }
-}
-
-pub fn runs_allowed(kind: Kind, gaps: usize, runs: usize) -> bool
-    ensures { λ r. ⌜ r ≡ runsAllowed kind gaps runs ⌝ }
-{
-    match kind {
-        Kind::InOrder => true,
-        Kind::Late => runs <= gaps,
-    }
-}
-
-// 2B in order, 2B + k late.
-pub fn limit(s: Settings, runs: usize) -> usize
-    requires { ⌜ limit s runs < 2 ^ 32 ⌝ }
-    ensures { λ r. ⌜ r ≡ limit s runs ⌝ }
-{
-    let kind = s.kind;
-    match kind {
-        Kind::InOrder => 2 * s.steps,
-        Kind::Late => 2 * s.steps + runs,
-    }
-}
-
 // The one pass: every number of the first `used` slots in its range, every record within the rules, and the runs and readings as many as told.
 pub(crate) fn scan(
     kind: Kind,
@@ -167,10 +140,7 @@ pub fn sound(s: State, room: &[i64]) -> bool
 {
     let settings = s.settings;
     let kind = settings.kind;
-    if settings.steps < 1 {
-        return false;
-    }
-    if MOST < settings.steps {
+    if !steps_good(settings) {
         return false;
     }
     if !gaps_good(kind, settings.gaps) {
@@ -179,8 +149,8 @@ pub fn sound(s: State, room: &[i64]) -> bool
     if !runs_allowed(kind, settings.gaps, s.runs) {
         return false;
     }
-    let needed = limit(settings, settings.gaps) + 1;
-    if room.len() < SLOT * needed {
+    let slots = needed(settings);
+    if room.len() < SLOT * slots {
         return false;
     }
     if limit(settings, s.runs) < s.used {
@@ -189,5 +159,5 @@ pub fn sound(s: State, room: &[i64]) -> bool
     if !scan(kind, s.used, s.runs, s.readings, room) {
         return false;
     }
-    all_zero(room, SLOT * s.used, SLOT * needed)
+    all_zero(room, SLOT * s.used, SLOT * slots)
 }

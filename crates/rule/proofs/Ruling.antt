@@ -1,7 +1,7 @@
 -- The record rules as facts, and that merging and inserting keep them.
 use Prim.Native.Nat.{ℕ, zero, suc, _+_, _/_, _≤_, _<_}
 use mathlib.Core.Path.{_≡_, refl, sym, ap, _∙_, subst}
-use mathlib.Core.Bool.{Bool, true, false, cond, not, _&&_, _||_, false≢true}
+use mathlib.Core.Bool.{Bool, true, false, cond, not, _&&_, _||_, false≢true, Bool·not-not}
 use mathlib.Core.List.{List, [], _∷_, _++_}
 use native.Mathlib.Omega.{arith}
 use borrow.Author.Tests.{leb-true, le-leb, eqb-false, eqb-true, eq-eqb, le-ltb, lt-ltb, ltb-false, ne-eqb}
@@ -38,6 +38,10 @@ and-right false b e = absurd (false≢true e)
 
 pub and-both : {a b : Bool} → a ≡ true → b ≡ true → a && b ≡ true
 and-both e f = rw (e, f)
+
+-- a test as the code branches on it, negated
+pub flipped : {r a v : Bool} → r ≡ a → not r ≡ v → a ≡ not v
+flipped {r} p h = rw (← h, ← p) (sym (Bool·not-not r))
 
 -- a rule of the list that fails is a fault, and no other
 whole-at : (i j : ℕ) (l : List Bool) (f : Fault) → isWhole (faultAt i (firstFalse (suc j) l) f) ≡ allOf l && isWhole f

@@ -137,14 +137,17 @@ unfoldable pub refuseFault : {A : Type 0} → Fault → Verdict A → Verdict A
 refuseFault whole v = v
 refuseFault (fault i r) v = refused (Refusal.Record i)
 
-unfoldable pub loadVerdict : Settings → List ℕ → List ℤ → Verdict Table
-loadVerdict s file l =
-    admitted s l
-    (refuse (not (eqb (length file % recordWidth) 0)) Refusal.Length
+-- what load asks of a file, once settings and room are admitted
+unfoldable pub fileVerdict : Settings → List ℕ → Verdict Table
+fileVerdict s file =
+    refuse (not (eqb (length file % recordWidth) 0)) Refusal.Length
     (refuseFault (firstFault (s .kind) 0 0 (recordsOf file))
     (refuse (not (runsAllowed (s .kind) (s .gaps) (runs (recordsOf file)))) Refusal.Runs
     (refuse (ltb (limit s (runs (recordsOf file))) (length (recordsOf file))) Refusal.Overfull
-    (accepted (recordsOf file))))))
+    (accepted (recordsOf file)))))
+
+abbrev pub loadVerdict : Settings → List ℕ → List ℤ → Verdict Table
+loadVerdict s file l = admitted s l (fileVerdict s file)
 
 abbrev pub loaded : Settings → List ℕ → List ℤ → Verdict State × List ℤ
 loaded s file l = traced (kept s) l (loadVerdict (kept s) file l)

@@ -57,7 +57,7 @@ fn loaded(kind: Kind, steps: usize, gaps: usize, order: u8, count: u32, tally: T
     let mut room = [0i64; 1284];
     let file = nearly_all();
     show::heading(kind, steps, gaps, tally);
-    let a = Trace::load(Settings { kind, steps, gaps }, &file, &mut room);
+    let a = saved::load(Settings { kind, steps, gaps }, &file, &mut room);
     begun(a, &mut room, order, count, tally);
 }
 

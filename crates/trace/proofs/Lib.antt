@@ -3,6 +3,4 @@ pub mod Following
 pub mod Arriving
 pub mod Finding
 pub mod Leaving
-pub mod Filing
-pub mod RoundTrips
 pub mod OneOutcome

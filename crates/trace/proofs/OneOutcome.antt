@@ -5,8 +5,6 @@ use Rattle.trace.proofs.Trace.open as opens
 use Rattle.trace.proofs.Trace.next as next
 use Rattle.trace.proofs.Trace.late as late
 use Rattle.trace.proofs.Trace.lookup as lookup
-use Rattle.trace.proofs.Trace.save as save
-use Rattle.trace.proofs.Trace.load as load
 
 pub open-one : OneOutcome opens.ended (λ M. opens.clauses)
 open-one M 𝓤 H A mem run κs a g r r′ l l′ = by-pair 𝓤 (λ x. (l .0, (x, l .1 .1)))
@@ -19,9 +17,3 @@ late-one M 𝓤 H A mem run κs a g r r′ l l′ = by-pair 𝓤 (λ x. (l .0, (
 
 pub lookup-one : OneOutcome lookup.ended (λ M. lookup.clauses)
 lookup-one M 𝓤 H A mem run κs a g r r′ l l′ = by-result 𝓤
-
-pub save-one : OneOutcome save.ended (λ M. save.clauses)
-save-one M 𝓤 H A mem run κs a g r r′ l l′ = by-pair 𝓤 (λ x. (l .0, (l .1 .0, (x, l .1 .1 .1))))
-
-pub load-one : OneOutcome load.ended (λ M. load.clauses)
-load-one M 𝓤 H A mem run κs a g r r′ l l′ = by-pair 𝓤 (λ x. (l .0, (l .1 .0, (x, l .1 .1 .1))))

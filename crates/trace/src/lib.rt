@@ -1,19 +1,12 @@
 // What a caller calls: a trace in order or late over lent room. No public call here asks anything of its caller.
 ghost use mathlib.Core.Option.{some};
 ghost use mathlib.Core.Path.{_≡_};
-ghost use Rattle.rule.specs.Calls.{found, late, lateOutcome, lookupOutcome, nextOutcome, opened, stateOf};
+ghost use Rattle.rule.specs.Calls.{found, lateOutcome, lookupOutcome, nextOutcome, opened, stateOf};
 ghost use Rattle.rule.specs.Room.{laid, slots, tableOf};
 ghost use Rattle.rule.specs.Table.{accept, needed, nextTick};
 ghost use Rattle.slots.specs.Slots.{Filled};
 ghost use Rattle.trace.specs.Answers.{answered};
 ghost use Rattle.room.specs.Steps.{Ready};
-
-mod files;
-mod settings;
-
-use crate::settings::Admitted;
-use crate::settings::admit;
-use crate::settings::kept;
 use room::check::sound;
 use room::steps::accept;
 use room::steps::find;
@@ -21,11 +14,15 @@ use room::steps::held;
 use room::steps::joins;
 use rule::Bucket;
 use rule::Found;
-use rule::Kind;
 use rule::Refusal;
 use rule::SLOT;
 use rule::Settings;
 use rule::State;
+use settings::Admitted;
+use settings::admit;
+use settings::empty;
+use settings::is_late;
+use settings::kept;
 use slots::moves::clear;
 use slots::read;
 
@@ -41,15 +38,6 @@ pub struct Trace {
 pub enum Answer {
     Accepted(Trace),
     Refused(Refusal),
-}
-
-fn is_late(kind: Kind) -> bool
-    ensures { λ r. ⌜ r ≡ late kind ⌝ }
-{
-    match kind {
-        Kind::InOrder => false,
-        Kind::Late => true,
-    }
 }
 
 // The end of the last bucket, 0 where there is none.
@@ -76,22 +64,15 @@ fn found_in(b: Bucket) -> Found
 
 impl Trace {
     // An empty trace in the needed slots of the room.
-    pub fn open(settings: Settings, room: &mut [i64]) -> Answer
-        ensures { λ r. ⌜ (r, now (room .exit)) ≡ answered (opened settings (now (room .entry))) ⌝ }
+    pub fn open(named: Settings, room: &mut [i64]) -> Answer
+        ensures { λ r. ⌜ (r, now (room .exit)) ≡ answered (opened named (now (room .entry))) ⌝ }
     {
-        let s = kept(settings);
+        let s = kept(named);
         match admit(s, &*room) {
             Admitted::Refused(r) => Answer::Refused(r),
             Admitted::Slots(needed) => {
                 clear(&mut *room, 0, SLOT * needed);
-                Answer::Accepted(Trace {
-                    state: State {
-                        settings: s,
-                        used: 0,
-                        runs: 0,
-                        readings: 0,
-                    },
-                })
+                Answer::Accepted(Trace { state: empty(s) })
             }
         }
     }

@@ -8,7 +8,7 @@ use Rattle.rule.specs.Room.{sound, tableOf}
 use Rattle.slots.proofs.Laying.{length-slots}
 use Rattle.slots.proofs.Reading.{filled}
 use Rattle.room.proofs.Sounding.{sound-facts, sound-filled}
-use Rattle.room.proofs.Tests.{flipped}
+use Rattle.rule.proofs.Ruling.{flipped}
 use Rattle.row.specs.Parts.{parted, partOutcome}
 use Rattle.row.proofs.Places.{part-past, part-slot}
 use Rattle.row.proofs.bucket.Statement.{statement}

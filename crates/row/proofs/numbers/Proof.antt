@@ -8,8 +8,9 @@ use mathlib.Core.Bool.{true}
 use lib.ListN.{length}
 use Rattle.rule.specs.Calls.{refuse, writeVerdict, wrote}
 use Rattle.rule.specs.Room.{sound}
-use Rattle.room.proofs.Sounding.{needed-small, sound-facts, sound-filled, used-needed}
-use Rattle.room.proofs.Tests.{flipped}
+use Rattle.room.proofs.Sounding.{sound-facts, sound-filled, used-needed}
+use Rattle.settings.proofs.Bounds.{needed-small}
+use Rattle.rule.proofs.Ruling.{flipped}
 use Rattle.row.proofs.Filling.{numbers-written}
 use Rattle.row.proofs.numbers.Statement.{statement}
 use Rattle.row.proofs.numbers.Tie as tie

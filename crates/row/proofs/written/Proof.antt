@@ -6,7 +6,7 @@ use mathlib.Core.Bool.{true}
 use Rattle.rule.specs.Calls.{refuse, writeVerdict}
 use Rattle.rule.specs.Room.{sound}
 use Rattle.slots.proofs.Laying.{length-slots}
-use Rattle.room.proofs.Tests.{flipped}
+use Rattle.rule.proofs.Ruling.{flipped}
 use Rattle.row.specs.Parts.{answer}
 use Rattle.row.proofs.written.Statement.{statement}
 use Rattle.row.proofs.written.Tie as tie

@@ -4,7 +4,7 @@ use mathlib.Core.Path.{sym, _∙_}
 use native.Mathlib.Omega.{arith}
 use borrow.Author.Needs.{needs}
 use borrow.Author.Tests.{eq-eqb, ne-eqb}
-use Rattle.room.proofs.Tests.{flipped}
+use Rattle.rule.proofs.Ruling.{flipped}
 use Rattle.room.proofs.Scanning.{Scan, begins-bound, scan-breaks, scan-ends, scan-fails, scan-goes-on, scan-starts}
 use Rattle.room.proofs.check.scan.Statement.{statement}
 use Rattle.room.proofs.check.scan.Tie as tie

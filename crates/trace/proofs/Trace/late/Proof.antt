@@ -11,7 +11,7 @@ use Rattle.rule.specs.Numbers.{ticks}
 use Rattle.rule.specs.Room.{sound, tableOf}
 use Rattle.rule.specs.Table.{holding, runs}
 use Rattle.room.specs.Steps.{Placed}
-use Rattle.room.proofs.Tests.{flipped}
+use Rattle.rule.proofs.Ruling.{flipped}
 use Rattle.trace.specs.declared.Answer.the-variants.{Accepted}
 use Rattle.trace.specs.Answers.{answer}
 use Rattle.room.specs.Steps.{with}

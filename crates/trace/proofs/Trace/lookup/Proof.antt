@@ -13,7 +13,7 @@ use Rattle.room.specs.Steps.{Placed}
 use Rattle.room.proofs.Placing.{filled-before}
 use Rattle.slots.proofs.Reading.{filled}
 use Rattle.room.proofs.Sounding.{sound-facts, sound-filled}
-use Rattle.room.proofs.Tests.{flipped}
+use Rattle.rule.proofs.Ruling.{flipped}
 use Rattle.trace.proofs.Finding.{before-holds, not-held, past-first, sound-placed}
 use Rattle.trace.proofs.Trace.lookup.Statement.{statement}
 use Rattle.trace.proofs.Trace.lookup.Tie as tie

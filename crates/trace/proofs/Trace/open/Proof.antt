@@ -7,21 +7,21 @@ use mathlib.Core.Path.{_≡_, sym, _∙_}
 use Rattle.rule.specs.Calls.{kept, traced}
 use Rattle.rule.specs.Room.{flat, laid}
 use Rattle.rule.specs.Table.{needed, readings, runs}
-use Rattle.room.proofs.Sounding.{needed-small}
+use Rattle.settings.proofs.Bounds.{needed-small}
 use Rattle.trace.specs.Answers.{answer}
-use Rattle.trace.proofs.Filing.{Granted, admit-grants, admit-refuses, admits}
+use Rattle.settings.proofs.Granting.{Granted, admit-grants, admit-refuses, admits}
 use Rattle.trace.proofs.Trace.open.Statement.{statement}
 use Rattle.trace.proofs.Trace.open.Tie as tie
 
-granted : (c : tie.After-needed) → let a = c .before .before .before .before .before .args in Granted (kept (a .settings)) (a .room .now) × (c .needed .given .0 .0 ≡ needed (kept (a .settings)))
+granted : (c : tie.After-needed) → let a = c .before .before .before .before .before .args in Granted (kept (a .named)) (a .room .now) × (c .needed .given .0 .0 ≡ needed (kept (a .named)))
 granted c =
     let a = c .before .before .before .before .before .args in
-    admit-grants (kept (a .settings)) (a .room .now) (c .needed .given .0 .0) (rw (c .before .before .before .before .kept .ensures) at (sym (c .before .before .admit .ensures) ∙ c .needed .given .1))
+    admit-grants (kept (a .named)) (a .room .now) (c .needed .given .0 .0) (rw (c .before .before .before .before .kept .ensures) at (sym (c .before .before .admit .ensures) ∙ c .needed .given .1))
 
 small : (c : tie.After-needed) → c .needed .given .0 .0 ≤ 769
 small c =
     let g = granted c in
-    omega (arith, g .1, needed-small (kept (c .before .before .before .before .before .args .settings)) (g .0 .steps) (g .0 .gaps))
+    omega (arith, g .1, needed-small (kept (c .before .before .before .before .before .args .named)) (g .0 .steps) (g .0 .gaps))
 
 kept-requires : tie.Need-kept-requires
 kept-requires c κs = search needs
@@ -41,6 +41,9 @@ mul-clear c = omega (arith, small (c .before .before))
 clear-requires : tie.Need-clear-requires
 clear-requires c κs = let g = granted (c .before .before) in omega (arith, g .1, g .0 .long)
 
+empty-requires : tie.Need-empty-requires
+empty-requires c κs = search needs
+
 same-length : tie.Need-same-length
 same-length c = search needs
 
@@ -48,7 +51,7 @@ returns : tie.Need-returns
 unfolding traced answer
 returns c =
     let a = c .before .before .before .before .before .before .args in
-    rw (admit-refuses (kept (a .settings)) (a .room .now) (c .before .r .given .0 .0) (rw (c .before .before .before .before .before .kept .ensures) at (sym (c .before .before .before .admit .ensures) ∙ c .before .r .given .1)))
+    rw (admit-refuses (kept (a .named)) (a .room .now) (c .before .r .given .0 .0) (rw (c .before .before .before .before .before .kept .ensures) at (sym (c .before .before .before .admit .ensures) ∙ c .before .r .given .1)))
 
 same-length-2 : tie.Need-same-length-2
 same-length-2 c = search needs
@@ -56,9 +59,9 @@ same-length-2 c = search needs
 returns-2 : tie.Need-returns-2
 unfolding traced answer laid flat readings runs
 returns-2 c =
-    let a = c .before .before .before .before .before .before .before .before .before .args in
-    let g = granted (c .before .before .before .before) in
-    rw (c .before .clear .ensures, admits (kept (a .settings)) (a .room .now) (g .0), c .before .before .before .before .before .before .before .before .kept .ensures, g .1) (simp sub-zero)
+    let a = c .before .before .before .before .before .before .before .before .before .before .args in
+    let g = granted (c .before .before .before .before .before) in
+    rw (c .empty .ensures, c .before .before .clear .ensures, admits (kept (a .named)) (a .room .now) (g .0), c .before .before .before .before .before .before .before .before .before .kept .ensures, g .1) (simp sub-zero)
 
 pub open-spec : {M : Type 1} → statement M
 open-spec =
@@ -70,6 +73,7 @@ open-spec =
     enum-known-needed
     mul-clear
     clear-requires
+    empty-requires
     same-length
     returns
     same-length-2

@@ -1,0 +1,202 @@
+-- Records and slots written one after the other, and what it means that settings, room and file are admitted.
+use Prim.Native.Nat.{ℕ, zero, suc, _+_, _*_, _-_, _%_, _≤_}
+use mathlib.Core.Path.{_≡_, refl, sym, ap, _∙_}
+use mathlib.Core.Bool.{Bool, true, false, not, false≢true}
+use mathlib.Core.List.{List, [], _∷_, _++_, append-assoc, append-nil}
+use native.Mathlib.Omega.{arith}
+use native.Mathlib.Nat.{add-zero, zero-add}
+use borrow.Author.Tests.{eqb-true, eq-eqb, leb-true, le-leb, ltb-false, le-ltb}
+use lib.Dec.{eqb, ltb}
+use lib.IntN.{ℤ}
+use lib.ListN.{length, take, drop, length-append, length-drop}
+use lib.Seq.{drop-append-add, drop-drop, take-at}
+use Rattle.record.specs.declared.Counted.{Counted}
+use Rattle.rule.specs.declared.Bucket.{Bucket}
+use Rattle.rule.specs.declared.Kind.{Kind}
+use Rattle.rule.specs.declared.Refusal.{Refusal}
+use Rattle.rule.specs.declared.Settings.{Settings}
+use Rattle.rule.specs.declared.State.{State}
+use Rattle.rule.specs.declared.Written.{Written}
+use Rattle.rule.specs.Bytes.{recordAt, records, recordsOf, saved}
+use Rattle.rule.specs.Calls.{Verdict, refused, accepted, admitted, kept, loadVerdict, loaded, refuse, refuseFault, saveOutcome, stateOf, traced, writeVerdict, wrote}
+use Rattle.rule.specs.Numbers.{recordWidth, slotWidth, ticks}
+use Rattle.rule.specs.Room.{flat, gapsGood, laid, roomy, runsAllowed, slot, slots, sound, stepsGood, tableOf, zeros}
+use Rattle.rule.specs.Rules.{Fault, whole, fault, firstFault, isWhole}
+use Rattle.rule.specs.Table.{Table, limit, needed, readings, runs}
+use Rattle.rule.proofs.Ruling.{Ruled, facts-ruled, ordered-readings, ruled-end, ruled-facts, ruled-ordered}
+use Rattle.record.specs.Files as files
+use Rattle.record.proofs.RoundTrip.{length-saved, put-saved}
+use Rattle.slots.specs.Slots.{put}
+use Rattle.slots.proofs.Shifting.{drop-past}
+use Rattle.settings.proofs.Bounds.{limit-gaps}
+use Rattle.slots.proofs.Laying.{flat-append, length-flat, length-slots, slots-split}
+use Rattle.settings.proofs.Granting.{Granted, admits, grants, holds, isAccepted, refuse-no}
+use Rattle.saved.specs.declared.Inspected.{Inspected}
+use Rattle.saved.specs.Verdicts.{inspection}
+use Rattle.rule.specs.Calls.{fileVerdict}
+
+-- ---- saved slot by slot
+
+slots-last : (l : List ℤ) (i : ℕ) → slots l 0 (suc i) ≡ slots l 0 i ++ (slot l i ∷ [])
+unfolding slots
+slots-last l i = slots-split l 0 i i 1 (suc i) (zero-add i) (omega arith)
+
+-- the first i slots of l are saved in out
+abbrev pub savedUpTo : List ℤ → List ℕ → ℕ → List ℕ
+savedUpTo l out i = saved (slots l 0 i) ++ drop (recordWidth * i) out
+
+pub saved-length : (l : List ℤ) (out : List ℕ) (i : ℕ) (new : List ℕ) → recordWidth * i ≤ length out → new ≡ savedUpTo l out i → length new ≡ length out
+saved-length l out i new h e = rw e (simp (length-append, length-drop, length-saved, length-slots) (omega arith))
+
+pub saved-next : (l : List ℤ) (out : List ℕ) (i : ℕ) → files.put (savedUpTo l out i) i (slot l i) ≡ savedUpTo l out (suc i)
+saved-next l out i =
+    let e : recordWidth * i + recordWidth ≡ recordWidth * suc i = omega arith in
+    put-saved (slots l 0 i) (slot l i) (drop (recordWidth * i) out) i (length-slots l 0 i)
+    ∙ rw (slots-last l i, drop-drop recordWidth (recordWidth * i) out, e)
+
+-- what a save of a sound trace leaves, where the output is long enough
+pub save-writes : (s : State) (l : List ℤ) (out : List ℕ) → sound s l ≡ true → recordWidth * s .used ≤ length out → saveOutcome s l out ≡ (Written.Buckets (s .used), savedUpTo l out (s .used))
+unfolding writeVerdict refuse wrote
+save-writes s l out h k = rw (h, le-ltb (length out) (recordWidth * s .used) k, length-saved (tableOf s l), length-slots l 0 (s .used))
+
+-- ---- loaded record by record
+
+records-last : (f : List ℕ) (i n : ℕ) → records f i (suc n) ≡ records f i n ++ (recordAt f (i + n) ∷ [])
+unfolding records
+records-last f i zero = rw add-zero
+records-last f i (suc n) =
+    let next : i + suc n ≡ suc i + n = omega arith in
+    rw next (ap (λ (t : Table). recordAt f i ∷ t) (records-last f (suc i) n))
+
+length-records : (f : List ℕ) (i n : ℕ) → length (records f i n) ≡ n
+unfolding records
+length-records f i zero = refl
+length-records f i (suc n) = ap suc (length-records f (suc i) n)
+
+-- the next bucket, behind the slots of the table t
+put-behind : (t : Table) (b : Bucket) (rest : List ℤ) (i : ℕ) → length t ≡ i → put (flat t ++ rest) i b ≡ flat (t ++ (b ∷ [])) ++ drop slotWidth rest
+unfolding put flat
+put-behind t b rest i h =
+    let e : slotWidth * suc i ≡ length (flat t) + slotWidth = omega (arith, length-flat t) in
+    rw (take-at (flat t) rest (slotWidth * i) (omega (arith, length-flat t)), e, drop-append-add (flat t) rest slotWidth, flat-append) (simp (append-assoc, append-nil))
+
+-- the first i records of f are loaded into l
+abbrev pub loadedUpTo : List ℕ → List ℤ → ℕ → List ℤ
+loadedUpTo f l i = flat (records f 0 i) ++ drop (slotWidth * i) l
+
+pub loaded-length : (f : List ℕ) (l : List ℤ) (i : ℕ) (new : List ℤ) → slotWidth * i ≤ length l → new ≡ loadedUpTo f l i → length new ≡ length l
+loaded-length f l i new h e = rw e (simp (length-append, length-drop, length-flat, length-records) (omega arith))
+
+pub loaded-next : (f : List ℕ) (l : List ℤ) (i : ℕ) → put (loadedUpTo f l i) i (recordAt f i) ≡ loadedUpTo f l (suc i)
+loaded-next f l i =
+    let e : slotWidth * i + slotWidth ≡ slotWidth * suc i = omega arith in
+    put-behind (records f 0 i) (recordAt f i) (drop (slotWidth * i) l) i (length-records f 0 i)
+    ∙ rw (records-last f 0 i, zero-add i, drop-drop slotWidth (slotWidth * i) l, e)
+
+-- what is left where the slots behind are cleared
+pub cleared : (f : List ℕ) (l : List ℤ) (i n : ℕ) → i ≤ n → take (4 * i) (loadedUpTo f l i) ++ (zeros (4 * n - 4 * i) ++ drop (4 * n) (loadedUpTo f l i)) ≡ laid n (records f 0 i) l
+unfolding laid
+cleared f l i n h =
+    let t = records f 0 i in
+    let long : length (flat t) ≡ 4 * i = length-flat t ∙ omega (arith, length-records f 0 i) in
+    let left : 4 * n - 4 * i ≡ 4 * (n - length t) = omega (arith, length-records f 0 i) in
+    rw (take-at (flat t) (drop (4 * i) l) (4 * i) long, left, drop-past (flat t) l (4 * i) (4 * n) long (omega arith))
+
+-- ---- verdicts
+
+refuse-none : {A : Type 0} (f : Fault) (v : Verdict A) → isAccepted (refuseFault f v) ≡ true → (f ≡ whole) × (isAccepted v ≡ true)
+unfolding isAccepted refuseFault
+refuse-none whole v e = (refl, e)
+refuse-none (fault i r) v e = absurd (false≢true e)
+
+-- ---- a file that loads
+
+pub record Loads (s : Settings) (file : List ℕ) : Type 0 where
+  pub even : length file % recordWidth ≡ 0
+  pub rules : Ruled (s .kind) 0 (recordsOf file)
+  pub allowed : runsAllowed (s .kind) (s .gaps) (runs (recordsOf file)) ≡ true
+  pub few : length (recordsOf file) ≤ limit s (runs (recordsOf file))
+
+whole-ruled : (k : Kind) (t : Table) → firstFault k 0 0 t ≡ whole → Ruled k 0 t
+unfolding isWhole
+whole-ruled k t e = ruled-facts k 0 0 t (ap isWhole e)
+
+pub whole-readings : (k : Kind) (t : Table) → firstFault k 0 0 t ≡ whole → readings t ≤ ticks
+whole-readings k t e =
+    let r = whole-ruled k t e in
+    omega (arith, ordered-readings 0 t (ruled-ordered k 0 t r), ruled-end k 0 t (omega arith) r)
+
+is-whole : (f : Fault) → isWhole f ≡ true → f ≡ whole
+unfolding isWhole
+is-whole whole e = refl
+is-whole (fault i r) e = absurd (false≢true e)
+
+module _ (s : Settings) (file : List ℕ) where
+  pub file-loads : Loads s file → fileVerdict s file ≡ accepted (recordsOf file)
+  unfolding fileVerdict refuse refuseFault
+  file-loads h =
+      rw (
+        eq-eqb (length file % recordWidth) 0 (h .even),
+        is-whole (firstFault (s .kind) 0 0 (recordsOf file)) (facts-ruled (s .kind) 0 0 (recordsOf file) (h .rules)),
+        h .allowed,
+        le-ltb (limit s (runs (recordsOf file))) (length (recordsOf file)) (h .few),
+      )
+
+  loads-file : isAccepted (fileVerdict s file) ≡ true → Loads s file
+  unfolding fileVerdict
+  loads-file e =
+      let t = recordsOf file in
+      let fourth = refuse (ltb (limit s (runs t)) (length t)) Refusal.Overfull (accepted t) in
+      let third = refuse (not (runsAllowed (s .kind) (s .gaps) (runs t))) Refusal.Runs fourth in
+      let second = refuseFault (firstFault (s .kind) 0 0 t) third in
+      let a = refuse-no (not (eqb (length file % recordWidth) 0)) Refusal.Length second e in
+      let b = refuse-none (firstFault (s .kind) 0 0 t) third (a .1) in
+      let c = refuse-no (not (runsAllowed (s .kind) (s .gaps) (runs t))) Refusal.Runs fourth (b .1) in
+      let d = refuse-no (ltb (limit s (runs t)) (length t)) Refusal.Overfull (accepted t) (c .1) in
+      record {
+        even = eqb-true (length file % recordWidth) 0 (holds (eqb (length file % recordWidth) 0) (a .0));
+        rules = whole-ruled (s .kind) t (b .0);
+        allowed = holds (runsAllowed (s .kind) (s .gaps) (runs t)) (c .0);
+        few = ltb-false (limit s (runs t)) (length t) (d .0);
+      }
+
+pub inspect-refuses : (v : Verdict Table) (r : Refusal) → inspection v ≡ Inspected.Refused r → v ≡ refused r
+unfolding inspection
+inspect-refuses (refused q) r e = cc
+inspect-refuses (accepted t) r e = absurd (let z : _≡_ {A = ℕ} 0 1 = cc in omega arith)
+
+inspection-counts : (v : Verdict Table) (c : Counted) → inspection v ≡ Inspected.Counts c → isAccepted v ≡ true
+unfolding inspection isAccepted
+inspection-counts (refused r) c e = absurd (let z : _≡_ {A = ℕ} 0 1 = cc in omega arith)
+inspection-counts (accepted t) c e = refl
+
+counted : (t : Table) (c : Counted) → inspection (accepted t) ≡ Inspected.Counts c → (c .runs ≡ runs t) × (c .readings ≡ readings t)
+unfolding inspection
+counted t c e = let same : c ≡ record { runs = runs t; readings = readings t } = cc in (ap (λ (d : Counted). d .runs) same, ap (λ (d : Counted). d .readings) same)
+
+pub inspect-counts : (s : Settings) (file : List ℕ) (c : Counted) → inspection (fileVerdict s file) ≡ Inspected.Counts c
+    → Loads s file × ((c .runs ≡ runs (recordsOf file)) × (c .readings ≡ readings (recordsOf file)))
+inspect-counts s file c e =
+    let h = loads-file s file (inspection-counts (fileVerdict s file) c e) in
+    (h, counted (recordsOf file) c (rw (file-loads s file h) at e))
+
+-- the records of a file that loads leave a slot free
+pub loads-needed : (s : Settings) (file : List ℕ) → Loads s file → suc (length (recordsOf file)) ≤ needed s
+loads-needed s file h = omega (arith, h .few, limit-gaps (s .kind) (2 * s .steps) (s .gaps) (runs (recordsOf file)) (h .allowed))
+
+-- ---- a load that is accepted
+
+traced-accepted : (s : Settings) (l : List ℤ) (v : Verdict Table) (t : State) → traced s l v .0 ≡ accepted t → isAccepted v ≡ true
+unfolding traced isAccepted
+traced-accepted s l (refused r) t e = absurd (let z : _≡_ {A = ℕ} 0 1 = cc in omega arith)
+traced-accepted s l (accepted u) t e = refl
+
+module _ (s : Settings) (file : List ℕ) (l : List ℤ) where
+  pub load-accepts : (t : State) → loaded s file l .0 ≡ accepted t → Granted (kept s) l × Loads (kept s) file
+  load-accepts t e =
+      let g = grants (kept s) l (fileVerdict (kept s) file) (traced-accepted (kept s) l (loadVerdict (kept s) file l) t e) in
+      (g .0, loads-file (kept s) file (g .1))
+
+  pub load-leaves : Granted (kept s) l → Loads (kept s) file → loaded s file l ≡ (accepted (stateOf (kept s) (recordsOf file)), laid (needed (kept s)) (recordsOf file) l)
+  unfolding traced
+  load-leaves g h = rw (admits (kept s) l g (fileVerdict (kept s) file), file-loads (kept s) file h)

@@ -1,0 +1,137 @@
+-- `saved::load` meets its contract: each return is its case of the outcome.
+use borrow.Author.Needs.{needs}
+use native.Mathlib.Omega.{arith}
+use Prim.Native.Nat.{_/_, _≤_}
+use mathlib.Core.Path.{_≡_, sym, _∙_}
+use lib.ListN.{length}
+use Rattle.rule.specs.declared.Settings.{Settings}
+use Rattle.rule.specs.Bytes.{recordsOf}
+use Rattle.rule.specs.Calls.{kept, traced}
+use Rattle.rule.specs.Room.{laid}
+use Rattle.rule.specs.Table.{needed, readings, runs}
+use Rattle.record.proofs.Faults.{length-file}
+use Rattle.settings.proofs.Bounds.{needed-small}
+use Rattle.trace.specs.declared.Answer.the-variants.{Accepted}
+use Rattle.trace.specs.Answers.{answer}
+use Rattle.rule.specs.Calls.{fileVerdict}
+use Rattle.saved.proofs.Filing.{Loads, cleared, file-loads, inspect-counts, inspect-refuses, loaded-length, loads-needed}
+use Rattle.settings.proofs.Granting.{Granted, admit-grants, admit-refuses, admits}
+use Rattle.saved.proofs.load.Statement.{statement}
+use Rattle.saved.proofs.load.Tie as tie
+
+granted : (c : tie.After-needed) → let a = c .before .before .before .before .before .before .args in Granted (kept (a .named)) (a .room .now) × (c .needed .given .0 .0 ≡ needed (kept (a .named)))
+granted c =
+    let a = c .before .before .before .before .before .before .args in
+    admit-grants (kept (a .named)) (a .room .now) (c .needed .given .0 .0) (rw (c .before .before .before .before .kept .ensures) at (sym (c .before .before .admit .ensures) ∙ c .needed .given .1))
+
+small : (c : tie.After-needed) → c .needed .given .0 .0 ≤ 769
+small c =
+    let g = granted c in
+    omega (arith, g .1, needed-small (kept (c .before .before .before .before .before .before .args .named)) (g .0 .steps) (g .0 .gaps))
+
+loads : (c : tie.After-c) → let a = c .before .before .before .before .before .before .before .before .before .before .args in
+    Loads (kept (a .named)) (a .file .now) × ((c .c .given .0 .0 .runs ≡ runs (recordsOf (a .file .now))) × (c .c .given .0 .0 .readings ≡ readings (recordsOf (a .file .now))))
+loads c =
+    let a = c .before .before .before .before .before .before .before .before .before .before .args in
+    inspect-counts (kept (a .named)) (a .file .now) (c .c .given .0 .0) (rw (c .before .before .before .before .before .before .before .before .kept .ensures) at (sym (c .before .before .inspect .ensures) ∙ c .c .given .1))
+
+-- there is a slot for each record
+few : (c : tie.After-c) → length (c .before .before .before .before .before .before .before .before .before .before .args .file .now) / 16 ≤ c .before .before .before .before .needed .given .0 .0
+few c =
+    let a = c .before .before .before .before .before .before .before .before .before .before .args in
+    omega (arith, loads-needed (kept (a .named)) (a .file .now) (loads c .0), length-file (a .file .now), granted (c .before .before .before .before) .1)
+
+kept-requires : tie.Need-kept-requires
+kept-requires c κs = search needs
+
+admit-requires : tie.Need-admit-requires
+admit-requires c κs = search needs
+
+enum-known-r : tie.Need-enum-known-r
+enum-known-r c = search needs
+
+enum-known-needed : tie.Need-enum-known-needed
+enum-known-needed c = search needs
+
+inspect-requires : tie.Need-inspect-requires
+inspect-requires c κs = let g = granted (c .before) .0 in rw (c .before .before .before .before .before .kept .ensures) (g .steps, g .gaps)
+
+enum-known-r-2 : tie.Need-enum-known-r-2
+enum-known-r-2 c = search needs
+
+enum-known-c : tie.Need-enum-known-c
+enum-known-c c = search needs
+
+load-slots-requires : tie.Need-load-slots-requires
+load-slots-requires c κs = let g = granted (c .before .before .before .before .before .before) in (omega arith, omega (arith, few (c .before .before), g .1, g .0 .long))
+
+mul-clear : tie.Need-mul-clear
+mul-clear c = search needs
+
+mul-clear-2 : tie.Need-mul-clear-2
+mul-clear-2 c = omega (arith, small (c .before .before .before .before .before .before .before .before .before))
+
+clear-requires : tie.Need-clear-requires
+clear-requires c κs =
+    let a = c .before .before .before .before .before .before .before .before .before .before .before .before .before .before .before .args in
+    let g = granted (c .before .before .before .before .before .before .before .before .before) in
+    let same = loaded-length (a .file .now) (a .room .now) (length (a .file .now) / 16) (c .before .before .load-slots .last .1 .1 .0) (omega (arith, few (c .before .before .before .before .before), g .1, g .0 .long)) (c .before .before .load-slots .ensures) in
+    (omega (arith, few (c .before .before .before .before .before)), omega (arith, same, g .1, g .0 .long))
+
+same-length : tie.Need-same-length
+same-length c = search needs
+
+returns : tie.Need-returns
+unfolding traced answer
+returns c =
+    let a = c .before .before .before .before .before .before .before .args in
+    rw (admit-refuses (kept (a .named)) (a .room .now) (c .before .r .given .0 .0) (rw (c .before .before .before .before .before .kept .ensures) at (sym (c .before .before .before .admit .ensures) ∙ c .before .r .given .1)) (fileVerdict (kept (a .named)) (a .file .now)))
+
+same-length-2 : tie.Need-same-length-2
+same-length-2 c = search needs
+
+returns-2 : tie.Need-returns-2
+unfolding traced answer
+returns-2 c =
+    let a = c .before .before .before .before .before .before .before .before .before .before .before .args in
+    rw (
+      admits (kept (a .named)) (a .room .now) (granted (c .before .before .before .before .before) .0) (fileVerdict (kept (a .named)) (a .file .now)),
+      inspect-refuses (fileVerdict (kept (a .named)) (a .file .now)) (c .before .r2 .given .0 .0) (rw (c .before .before .before .before .before .before .before .before .before .kept .ensures) at (sym (c .before .before .before .inspect .ensures) ∙ c .before .r2 .given .1)),
+    )
+
+same-length-3 : tie.Need-same-length-3
+same-length-3 c = search needs
+
+returns-3 : tie.Need-returns-3
+unfolding traced answer recordsOf
+returns-3 c =
+    let a = c .before .before .before .before .before .before .before .before .before .before .before .before .before .before .before .before .before .args in
+    let s : Settings = kept (a .named) in
+    let h = loads (c .before .before .before .before .before .before .before) in
+    let g = granted (c .before .before .before .before .before .before .before .before .before .before .before) in
+    let room : c .before .clear .last .0 ≡ laid (needed s) (recordsOf (a .file .now)) (a .room .now) =
+    rw (c .before .clear .ensures, c .before .before .before .before .load-slots .ensures) (rw (g .1) (cleared (a .file .now) (a .room .now) (length (a .file .now) / 16) (needed s) (omega (arith, few (c .before .before .before .before .before .before .before), g .1)))) in
+    rw (admits s (a .room .now) (g .0) (fileVerdict s (a .file .now)), file-loads s (a .file .now) (h .0))
+    (λ i. (Accepted (record { state = record { settings = c .before .before .before .before .before .before .before .before .before .before .before .before .before .before .before .kept .ensures i; used = sym (length-file (a .file .now)) i; runs = h .1 .0 i; readings = h .1 .1 i } }), room i))
+
+pub load-spec : {M : Type 1} → statement M
+load-spec =
+    tie.close
+    (tie.spec
+    kept-requires
+    admit-requires
+    enum-known-r
+    enum-known-needed
+    inspect-requires
+    enum-known-r-2
+    enum-known-c
+    load-slots-requires
+    mul-clear
+    mul-clear-2
+    clear-requires
+    same-length
+    returns
+    same-length-2
+    returns-2
+    same-length-3
+    returns-3)

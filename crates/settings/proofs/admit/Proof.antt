@@ -1,0 +1,78 @@
+-- `settings::admit` meets its contract: each return is its case of the verdict.
+use borrow.Author.Needs.{needs}
+use borrow.Author.Tests.{le-leb, lt-leb}
+use native.Mathlib.Omega.{arith}
+use Prim.Native.Nat.{_≤_, _*_}
+use mathlib.Core.Path.{_≡_}
+use mathlib.Core.Bool.{true}
+use lib.ListN.{length}
+use Rattle.rule.specs.Calls.{admitted, refuse}
+use Rattle.rule.specs.Numbers.{slotWidth}
+use Rattle.rule.specs.Room.{gapsGood, roomy, stepsGood}
+use Rattle.rule.specs.Table.{needed}
+use Rattle.settings.proofs.Bounds.{needed-small}
+use Rattle.rule.proofs.Ruling.{flipped}
+use Rattle.settings.specs.Admission.{admission}
+use Rattle.settings.proofs.admit.Statement.{statement}
+use Rattle.settings.proofs.admit.Tie as tie
+
+steps-here : (c : tie.Else1) → stepsGood (c .before .before .args .s) ≡ true
+steps-here c = flipped (c .before .steps-good .ensures) (c .if1 .left)
+
+gaps-here : (c : tie.Else2) → gapsGood (c .before .before .before .before .args .s .kind) (c .before .before .before .before .args .s .gaps) ≡ true
+gaps-here c = flipped (c .before .gaps-good .ensures) (c .if2 .left)
+
+small : (c : tie.Else2) → needed (c .before .before .before .before .args .s) ≤ 769
+small c = needed-small (c .before .before .before .before .args .s) (steps-here (c .before .before)) (gaps-here c)
+
+steps-good-requires : tie.Need-steps-good-requires
+steps-good-requires c κs = search needs
+
+returns : tie.Need-returns
+unfolding admitted admission refuse
+returns c = rw (flipped (c .before .steps-good .ensures) (c .if1 .taken))
+
+gaps-good-requires : tie.Need-gaps-good-requires
+gaps-good-requires c κs = search needs
+
+returns-2 : tie.Need-returns-2
+unfolding admitted admission refuse
+returns-2 c = rw (steps-here (c .before .before), flipped (c .before .gaps-good .ensures) (c .if2 .taken))
+
+needed-requires : tie.Need-needed-requires
+needed-requires c κs = omega (arith, small c)
+
+mul-if3 : tie.Need-mul-if3
+mul-if3 c = omega (arith, small (c .before), c .needed .ensures)
+
+returns-3 : tie.Need-returns-3
+unfolding admitted admission refuse roomy
+returns-3 c =
+    let two = c .before .before in
+    let a = two .before .before .before .before .args in
+    rw (steps-here (two .before .before), gaps-here two, lt-leb (slotWidth * needed (a .s)) (length (a .room .now)) (omega (arith, c .before .needed .ensures, c .if3 .taken)))
+
+returns-4 : tie.Need-returns-4
+unfolding admitted admission refuse roomy
+returns-4 c =
+    let two = c .before .before in
+    let a = two .before .before .before .before .args in
+    rw (
+      steps-here (two .before .before),
+      gaps-here two,
+      le-leb (slotWidth * needed (a .s)) (length (a .room .now)) (omega (arith, c .before .needed .ensures, c .if3 .left)),
+      c .before .needed .ensures,
+    )
+
+pub admit-spec : {M : Type 1} → statement M
+admit-spec =
+    tie.close
+    (tie.spec
+    steps-good-requires
+    returns
+    gaps-good-requires
+    returns-2
+    needed-requires
+    mul-if3
+    returns-3
+    returns-4)

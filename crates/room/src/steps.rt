@@ -22,7 +22,7 @@ use slots::moves::merge;
 use slots::read;
 
 // While the buckets are more than the limit, the cheapest neighbours are merged. Answers how many buckets are left; the slots freed are cleared.
-pub fn settle(s: Settings, runs: usize, room: &mut [i64], used: usize) -> usize
+pub(crate) fn settle(s: Settings, runs: usize, room: &mut [i64], used: usize) -> usize
     requires { ⌜ Settling s runs (now room) used ⌝ }
     ensures { λ r. ⌜ (r ≡ length (settle s (slots (now (room .entry)) 0 used))) × (now (room .exit) ≡ laid used (settle s (slots (now (room .entry)) 0 used)) (now (room .entry))) ⌝ }
 {

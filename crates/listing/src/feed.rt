@@ -1,5 +1,4 @@
 // Bytes to lines, and lines to the calls of a trace.
-use rule::Kind;
 use rule::Settings;
 use text::Line;
 use trace::Answer;
@@ -50,8 +49,8 @@ fn opened(a: Answer) -> Fed {
     Fed::On(t)
 }
 
-fn open(kind: Kind, steps: usize, gaps: usize, room: &mut [i64]) -> Fed {
-    let a = Trace::open(Settings { kind, steps, gaps }, &mut *room);
+fn open(named: Settings, room: &mut [i64]) -> Fed {
+    let a = Trace::open(named, &mut *room);
     opened(a)
 }
 
@@ -73,12 +72,9 @@ fn late(t: Trace, room: &mut [i64], tick: u32, value: i32) -> Fed {
 
 fn is_late(t: Trace) -> bool {
     let s = t.state;
-    let settings = s.settings;
-    let kind = settings.kind;
-    match kind {
-        Kind::InOrder => false,
-        Kind::Late => true,
-    }
+    let named = s.settings;
+    let kind = named.kind;
+    settings::is_late(kind)
 }
 
 fn steps_of(t: Trace) -> usize {
@@ -92,14 +88,14 @@ fn obey(t: Trace, stage: usize, room: &mut [i64], l: Line) -> Fed {
     match l {
         Line::Steps(n) => {
             if stage == NOTHING_READ {
-                open(Kind::InOrder, n as usize, 0, &mut *room)
+                open(settings::in_order(n as usize), &mut *room)
             } else {
                 Fed::Refused(LINE)
             }
         }
         Line::Late(n) => {
             if stage <= STEPS_READ {
-                open(Kind::Late, steps_of(t), n as usize, &mut *room)
+                open(settings::late(steps_of(t), n as usize), &mut *room)
             } else {
                 Fed::Refused(LINE)
             }
@@ -191,13 +187,9 @@ fn lengthened(f: Feeding) -> Feeding {
 
 // The default trace, with nothing read. Its answer is a trace: the room has slots enough for 32 steps.
 pub(crate) fn begin(room: &mut [i64]) -> Feeding {
-    let settings = Settings {
-        kind: Kind::InOrder,
-        steps: DEFAULT_STEPS,
-        gaps: 0,
-    };
-    let a = Trace::open(settings, &mut *room);
-    let trace = trace_of(a, settings);
+    let named = settings::in_order(DEFAULT_STEPS);
+    let a = Trace::open(named, &mut *room);
+    let trace = trace_of(a, named);
     Feeding {
         trace,
         stage: NOTHING_READ,
@@ -207,16 +199,11 @@ pub(crate) fn begin(room: &mut [i64]) -> Feeding {
     }
 }
 
-fn trace_of(a: Answer, settings: Settings) -> Trace {
+fn trace_of(a: Answer, named: Settings) -> Trace {
     match a {
         Answer::Accepted(t) => t,
         Answer::Refused(_) => Trace {
-            state: rule::State {
-                settings,
-                used: 0,
-                runs: 0,
-                readings: 0,
-            },
+            state: settings::empty(named),
         },
     }
 }

@@ -1,6 +1,5 @@
 // One reading of a session: its value, its tick, and the call that it goes to, which is now and then one that is refused.
 use crate::show;
-use rule::Kind;
 use rule::State;
 use rule::Tally;
 use tally::Tallied;
@@ -56,12 +55,9 @@ fn value(turn: u32) -> i32 {
 
 fn is_late(trace: Trace) -> bool {
     let state = trace.state;
-    let settings = state.settings;
-    let kind = settings.kind;
-    match kind {
-        Kind::InOrder => false,
-        Kind::Late => true,
-    }
+    let named = state.settings;
+    let kind = named.kind;
+    settings::is_late(kind)
 }
 
 // The trace with one reading more in its state than it has.

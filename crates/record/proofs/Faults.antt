@@ -1,14 +1,14 @@
--- The rules asked one by one, and the pass over a file's records: what is left of it from a record on gives the whole's first fault.
+-- The pass over a file's records: what is left of it from a record on gives the whole's first fault.
 use Prim.Native.Nat.{ℕ, zero, suc, _+_, _-_, _/_, _≤_, _<_}
 use mathlib.Core.Path.{_≡_, refl, ap, sym, _∙_}
-use mathlib.Core.Bool.{Bool, true, false, cond, false≢true}
+use mathlib.Core.Bool.{false, cond, false≢true}
 use mathlib.Core.List.{List, [], _∷_}
 use native.Mathlib.Omega.{arith}
 use native.Mathlib.Nat.{sub-zero}
 use native.Mathlib.Numerals.{add-one}
 use borrow.Author.Tests.{ne-eqb}
 use lib.Dec.{eqb}
-use lib.ListN.{getD, length}
+use lib.ListN.{length}
 use Rattle.rule.specs.declared.Bucket.{Bucket}
 use Rattle.rule.specs.declared.Kind.{Kind}
 use Rattle.rule.specs.declared.Refusal.the-variants.{Record}
@@ -16,46 +16,12 @@ use Rattle.rule.specs.Numbers.{recordWidth, word}
 use Rattle.rule.specs.Bucket.{end}
 use Rattle.rule.specs.Table.{Table, readings, runs, runsAfter}
 use Rattle.rule.specs.Bytes.{recordAt, records, recordsOf}
-use Rattle.rule.specs.Rules.{Fault, whole, fault, broken, faultAt, firstFalse, firstFault, rules}
+use Rattle.rule.specs.Rules.{Fault, whole, fault, broken, faultAt, firstFault}
 use Rattle.rule.specs.Calls.{Verdict, refused, refuseFault}
-use Rattle.rule.proofs.Whole.{cond-ind}
 use Rattle.rule.proofs.Fitting.{Fitted}
-use Rattle.record.specs.Files.{meets, placeOr}
-
--- ---- the rules of one record
-
-pub no-other : (n : ℕ) (k : Kind) (e : ℕ) (b : Bucket) → (n ≡ 1 → ⊥) → (n ≡ 2 → ⊥) → (n ≡ 3 → ⊥) → (n ≡ 4 → ⊥) → (n ≡ 5 → ⊥) → meets n k e b ≡ true
-unfolding meets rules
-no-other zero k e b h1 h2 h3 h4 h5 = refl
-no-other (suc zero) k e b h1 h2 h3 h4 h5 = absurd (h1 refl)
-no-other (suc (suc zero)) k e b h1 h2 h3 h4 h5 = absurd (h2 refl)
-no-other (suc (suc (suc zero))) k e b h1 h2 h3 h4 h5 = absurd (h3 refl)
-no-other (suc (suc (suc (suc zero)))) k e b h1 h2 h3 h4 h5 = absurd (h4 refl)
-no-other (suc (suc (suc (suc (suc zero))))) k e b h1 h2 h3 h4 h5 = absurd (h5 refl)
-no-other (suc (suc (suc (suc (suc (suc n)))))) k e b h1 h2 h3 h4 h5 = refl
-
-none-false : (i : ℕ) (l : List Bool) (n : ℕ) → firstFalse (suc i) l ≡ 0 → getD l n true ≡ true
-unfolding firstFalse
-none-false i [] n h = refl
-none-false i (true ∷ l) zero h = refl
-none-false i (true ∷ l) (suc n) h = none-false (suc i) l n h
-none-false i (false ∷ l) n h = absurd (omega arith)
-
-all-true : (i : ℕ) (l : List Bool) → ((n : ℕ) → n < length l → getD l n true ≡ true) → firstFalse i l ≡ 0
-unfolding firstFalse
-all-true i [] h = refl
-all-true i (true ∷ l) h = all-true (suc i) l (λ n p. h (suc n) (omega arith))
-all-true i (false ∷ l) h = absurd (false≢true (h 0 (omega arith)))
-
-module _ (k : Kind) (e : ℕ) (b : Bucket) where
-  pub met : broken k e b ≡ 0 → (n : ℕ) → meets n k e b ≡ true
-  unfolding meets broken
-  met h zero = refl
-  met h (suc n) = none-false 0 (rules k e b) n h
-
-  pub all-met : ((n : ℕ) → n < 6 → meets n k e b ≡ true) → broken k e b ≡ 0
-  unfolding meets broken rules
-  all-met h = all-true 1 (rules k e b) (λ n p. h (suc n) (omega arith))
+use Rattle.rules.specs.Numbered.{meets}
+use Rattle.rules.proofs.Numbered.{met}
+use Rattle.record.specs.Files.{placeOr}
 
 -- ---- the pass
 
@@ -92,9 +58,9 @@ module _ (k : Kind) (l : List ℕ) (n e i : ℕ) where
     scan-fault rule bad =
         rw (records-next l n i more, ← is) (broken-at n i (broken k e b) _ (λ z. false≢true (sym bad ∙ met k e b z rule)))
 
-    pub scan-next : ((rule : ℕ) → rule < 6 → meets rule k e b ≡ true) → scan k l n e i ≡ scan k l n (end b) (i + 1)
+    pub scan-next : broken k e b ≡ 0 → scan k l n e i ≡ scan k l n (end b) (i + 1)
     unfolding firstFault faultAt
-    scan-next good = rw (records-next l n i more, ← is, all-met k e b good, add-one)
+    scan-next good = rw (records-next l n i more, ← is, good, add-one)
 
 -- ---- where no record is at fault
 
@@ -153,9 +119,6 @@ runs-done l n e i h = rw (records-done l n i h)
 pub readings-done : (l : List ℕ) (n i : ℕ) → n ≤ i → readingsLeft l n i ≡ 0
 unfolding readings
 readings-done l n i h = rw (records-done l n i h)
-
-pub at-most-one : (e s : ℕ) → cond (eqb e s) 0 1 ≤ 1
-at-most-one e s = cond-ind (eqb e s) 0 1 (λ n. n ≤ 1) (λ h. omega arith) (λ h. omega arith)
 
 runs-first : (t : Table) → Fitted t → runsAfter word t ≡ runs t
 unfolding Fitted runsAfter runs

@@ -7,13 +7,13 @@ ghost use Rattle.rule.specs.Numbers.{recordWidth, ticks};
 ghost use Rattle.rule.specs.Bytes.{bits, bytes, reading, recordAt, recordsOf, wordAt};
 ghost use Rattle.rule.specs.Rules.{firstFault};
 ghost use Rattle.rule.specs.Table.{readings, runs};
-ghost use Rattle.record.specs.Files.{meets, placeOr, put};
+ghost use Rattle.record.specs.Files.{placeOr, put};
 use rule::Bucket;
 use rule::Kind;
 use rule::RECORD;
-use rule::TICKS;
-use rule::follows;
-use rule::starts_run;
+use rules::RULES;
+use rules::meets;
+use rules::starts_run;
 
 // That a byte is below 256 is what keeps the sum of a word's four in 32 bits.
 fn wide(b: u8) -> u32
@@ -96,20 +96,6 @@ pub fn write(out: &mut [u8], at: usize, b: Bucket)
     put_word(out, from + 12, bits(b.largest));
 }
 
-// The record of `b`, after one that ends at `end`, meets the rule of a number.
-pub(crate) fn meets(rule: usize, kind: Kind, end: usize, b: Bucket) -> bool
-    ensures { λ r. ⌜ r ≡ meets rule kind end b ⌝ }
-{
-    match rule {
-        1 => 1 <= b.count,
-        2 => b.end() <= TICKS,
-        3 => b.least <= b.largest,
-        4 => b.count != 1 || b.least == b.largest,
-        5 => follows(kind, end, b),
-        _ => true,
-    }
-}
-
 // The index of the first record that breaks a rule, the number of whole records where none does.
 pub fn first_fault(kind: Kind, file: &[u8]) -> usize
     ensures { λ r. ⌜ r ≡ placeOr (length (now (file .entry)) / recordWidth) (firstFault kind 0 0 (recordsOf (now (file .entry)))) ⌝ }
@@ -123,7 +109,7 @@ pub fn first_fault(kind: Kind, file: &[u8]) -> usize
         }
         let b = read(file, i);
         let mut rule = 1;
-        while rule <= 5 {
+        while rule <= RULES {
             if !meets(rule, kind, end, b) {
                 break 'records i;
             }

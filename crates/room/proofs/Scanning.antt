@@ -5,6 +5,7 @@ use mathlib.Core.Bool.{Bool, true, false, cond, _&&_, and-assoc, and-false}
 use mathlib.Core.List.{List, [], _∷_}
 use native.Mathlib.Numerals.{add-one}
 use native.Mathlib.Omega.{arith}
+use borrow.Author.Tests.{ne-eqb}
 use lib.Dec.{eqb}
 use lib.IntN.{ℤ, pos}
 use lib.ListN.{length, getD, take, drop}
@@ -13,21 +14,14 @@ use Rattle.rule.specs.declared.Bucket.{Bucket}
 use Rattle.rule.specs.declared.Kind.{Kind}
 use Rattle.rule.specs.Bucket.{end}
 use Rattle.rule.specs.Numbers.{word}
-use Rattle.rule.specs.Room.{allOf, allZero, ranged, slot, slotRanged, slots}
-use Rattle.rule.specs.Rules.{equal, firstFault, isWhole, ruled, rules}
+use Rattle.rule.specs.Room.{allZero, ranged, slot, slotRanged, slots}
+use Rattle.rule.specs.Rules.{Fault, broken, equal, faultAt, firstFault, isWhole, ruled}
 use Rattle.rule.specs.Table.{Table, readings, runs, runsAfter}
-use Rattle.rule.proofs.Ruling.{whole-step}
+use Rattle.rules.proofs.Numbered.{at-most-one}
 
 -- 1 where a bucket begins a run, the one before it ending at e
 abbrev pub begins : ℕ → Bucket → ℕ
 begins e b = cond (eqb e (b .start)) 0 1
-
-pub begins-bound : (e : ℕ) (b : Bucket) → begins e b ≤ 1
-begins-bound e b = at-most (eqb e (b .start))
-  where
-    at-most : (c : Bool) → cond c 0 1 ≤ 1
-    at-most true = omega arith
-    at-most false = omega arith
 
 -- the first bucket begins a run in any case
 runs-first : (b : Bucket) (t : Table) → runs (b ∷ t) ≡ cond (eqb 0 (b .start)) 1 0 + runsAfter 0 (b ∷ t)
@@ -42,6 +36,12 @@ pub runs-counted : (l : List ℤ) (n : ℕ) → (n ≡ 0 → ⊥) → runs (slot
 unfolding slots
 runs-counted l zero some = absurd (some refl)
 runs-counted l (suc n) some = runs-first (slot l 0) (slots l 1 n)
+
+-- a rule broken is a fault, and no rule broken is none
+whole-at : (i r : ℕ) (f : Fault) → isWhole (faultAt i r f) ≡ eqb r 0 && isWhole f
+unfolding faultAt isWhole
+whole-at i zero f = refl
+whole-at i (suc r) f = rw (ne-eqb (suc r) 0 (λ h. omega arith))
 
 module _ (k : Kind) (toldRuns toldReadings : ℕ) (l : List ℤ) where
   -- what the pass over the first n slots answers
@@ -67,15 +67,15 @@ module _ (k : Kind) (toldRuns toldReadings : ℕ) (l : List ℤ) where
       let z : counted + 0 ≡ counted = omega arith in let y : read + 0 ≡ read = omega arith in rw (z, y)
 
   left-step : (counted read e i n : ℕ)
-      → left counted read e i (suc n) ≡ slotRanged l i && (allOf (rules k e (slot l i)) && left (counted + begins e (slot l i)) (read + slot l i .count) (end (slot l i)) (suc i) n)
-  unfolding left ranged slots runsAfter readings
+      → left counted read e i (suc n) ≡ slotRanged l i && (eqb (broken k e (slot l i)) 0 && left (counted + begins e (slot l i)) (read + slot l i .count) (end (slot l i)) (suc i) n)
+  unfolding left ranged slots firstFault runsAfter readings
   left-step counted read e i n =
       let b = slot l i in
       let t = slots l (suc i) n in
       let more : counted + (begins e b + runsAfter (end b) t) ≡ counted + begins e b + runsAfter (end b) t = omega arith in
       let further : read + (b .count + readings t) ≡ read + b .count + readings t = omega arith in
-      rw (whole-step k e i b t, more, further)
-      (order (slotRanged l i) (ranged l (suc i) n) (allOf (rules k e b)) (isWhole (firstFault k (end b) (suc i) t)) _)
+      rw (whole-at i (broken k e b) (firstFault k (end b) (suc i) t), more, further)
+      (order (slotRanged l i) (ranged l (suc i) n) (eqb (broken k e b) 0) (isWhole (firstFault k (end b) (suc i) t)) _)
     where
       order : (a b c d r : Bool) → (a && b) && ((c && d) && r) ≡ a && (c && (b && (d && r)))
       order true true c d r = and-assoc c d r
@@ -101,7 +101,7 @@ module _ {k : Kind} {toldRuns toldReadings : ℕ} {l : List ℤ} {n counted read
 
   module _ (h : i < n) where
     scan-step : scanned k toldRuns toldReadings l n
-        ≡ slotRanged l i && (allOf (rules k e (slot l i)) && left k toldRuns toldReadings l (counted + begins e (slot l i)) (read + slot l i .count) (end (slot l i)) (i + 1) (n - (i + 1)))
+        ≡ slotRanged l i && (eqb (broken k e (slot l i)) 0 && left k toldRuns toldReadings l (counted + begins e (slot l i)) (read + slot l i .count) (end (slot l i)) (i + 1) (n - (i + 1)))
     scan-step =
         let one-more : n - i ≡ suc (n - (i + 1)) = omega arith in
         s .rest ∙ rw (one-more, add-one i) (left-step k toldRuns toldReadings l counted read e i (n - suc i))
@@ -110,13 +110,13 @@ module _ {k : Kind} {toldRuns toldReadings : ℕ} {l : List ℤ} {n counted read
     scan-fails f = scan-step ∙ rw f
 
     module _ (b : Bucket) (q : b ≡ slot l i) where
-      pub scan-breaks : allOf (rules k e b) ≡ false → scanned k toldRuns toldReadings l n ≡ false
+      pub scan-breaks : eqb (broken k e b) 0 ≡ false → scanned k toldRuns toldReadings l n ≡ false
       scan-breaks f = scan-step ∙ rw (← q, f) (and-false (slotRanged l i))
 
-      pub scan-goes-on : slotRanged l i ≡ true → allOf (rules k e b) ≡ true → b .count < word
+      pub scan-goes-on : slotRanged l i ≡ true → eqb (broken k e b) 0 ≡ true → b .count < word
           → Scan k toldRuns toldReadings l n (counted + begins e b) (read + b .count) (end b) (i + 1)
       scan-goes-on f g small =
-          record { inside = omega arith; few = omega (arith, begins-bound e b); bounded = omega arith; rest = scan-step ∙ rw (← q, f, g) }
+          record { inside = omega arith; few = omega (arith, at-most-one e (b .start)); bounded = omega arith; rest = scan-step ∙ rw (← q, f, g) }
 
 -- ---- zeros
 

@@ -3,17 +3,12 @@ use Prim.Native.Nat.{ℕ, zero, suc}
 use mathlib.Core.Path.{_≡_, sym}
 use mathlib.Core.Bool.{Bool, true, false, and-false}
 use mathlib.Core.List.{List, [], _∷_}
-use mathlib.Core.Logic.{_⊎_, ⊎-elim}
 use native.Mathlib.Omega.{arith}
 use lib.IntN.{ℤ, pos, negsuc, natAbs}
 use lib.ListN.{getD}
 use mir.Syntax.{w64}
 use mir.Val.{SFits, ofZ}
 use Rattle.rule.specs.Room.{allOf}
-
--- two ways that meet, the sum first so that each way's type is known where it is read
-pub came {ℓ} : {A B : Type 0} {P : Type ℓ} → A ⊎ B → (A → P) → (B → P) → P
-came w f g = ⊎-elim f g w
 
 -- a test that fails is enough
 pub fails : (l : List Bool) (i : ℕ) → getD l i true ≡ false → allOf l ≡ false

@@ -5,16 +5,14 @@ ghost use lib.ListN.{length, take, drop};
 ghost use Rattle.rule.specs.Numbers.{slotWidth};
 ghost use mathlib.Core.Bool.{_&&_};
 ghost use lib.Dec.{eqb};
-ghost use Rattle.rule.specs.Rules.{ruled, rules};
-ghost use Rattle.rule.specs.Room.{allOf, allZero, ranged, signed, slotRanged, slots, sound, unsigned};
+ghost use Rattle.rule.specs.Rules.{ruled};
+ghost use Rattle.rule.specs.Room.{allZero, ranged, signed, slotRanged, slots, sound, unsigned};
 ghost use Rattle.rule.specs.Table.{readings, runs, runsAfter};
-use rule::Bucket;
 use rule::Kind;
 use rule::SLOT;
 use rule::State;
-use rule::TICKS;
-use rule::follows;
-use rule::starts_run;
+use rules::first_broken;
+use rules::starts_run;
 use settings::gaps_good;
 use settings::limit;
 use settings::needed;
@@ -67,27 +65,6 @@ pub(crate) fn all_zero(room: &[i64], from: usize, to: usize) -> bool
     true
 }
 
-// A bucket meets the record rules where the one before it ends at `end`.
-pub(crate) fn meets(kind: Kind, end: usize, b: Bucket) -> bool
-    ensures { λ r. ⌜ r ≡ allOf (rules kind end b) ⌝ }
-{
-    if b.count < 1 {
-        return false;
-    }
-    if TICKS < b.end() {
-        return false;
-    }
-    if b.largest < b.least {
-        return false;
-    }
-    if b.count == 1 {
-        if b.least != b.largest {
-            return false;
-        }
-    }
-    follows(kind, end, b)
-}
-
 // The one pass: every number of the first `used` slots in its range, every record within the rules, and the runs and readings as many as told.
 pub(crate) fn scan(
     kind: Kind,
@@ -108,7 +85,7 @@ pub(crate) fn scan(
             return false;
         }
         let b = read(room, i);
-        if !meets(kind, end, b) {
+        if first_broken(kind, end, b) != 0 {
             return false;
         }
         runs += starts_run(end, b);

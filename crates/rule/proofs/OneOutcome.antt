@@ -14,8 +14,6 @@ use Rattle.rule.proofs.Bucket.error as error
 use Rattle.rule.proofs.Bucket.union as union
 use Rattle.rule.proofs.Bucket.union_spread as union-spread
 use Rattle.rule.proofs.Bucket.neighbours as neighbours
-use Rattle.rule.proofs.follows as follows
-use Rattle.rule.proofs.starts_run as starts-run
 
 pub number-one : OneOutcome number.ended (λ M. number.clauses)
 number-one M 𝓤 H A mem run κs a g r r′ l l′ = by-result 𝓤
@@ -55,9 +53,3 @@ union-spread-one M 𝓤 H A mem run κs a g r r′ l l′ = by-result 𝓤
 
 pub neighbours-one : OneOutcome neighbours.ended (λ M. neighbours.clauses)
 neighbours-one M 𝓤 H A mem run κs a g r r′ l l′ = by-result 𝓤
-
-pub follows-one : OneOutcome follows.ended (λ M. follows.clauses)
-follows-one M 𝓤 H A mem run κs a g r r′ l l′ = by-result 𝓤
-
-pub starts-run-one : OneOutcome starts-run.ended (λ M. starts-run.clauses)
-starts-run-one M 𝓤 H A mem run κs a g r r′ l l′ = by-result 𝓤

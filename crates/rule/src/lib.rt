@@ -1,11 +1,8 @@
 // The types that every call speaks with, and the arithmetic of one bucket. What is right stands in specs/, in document 01's words.
 ghost use mathlib.Core.Path.{_≡_};
-ghost use mathlib.Core.Bool.{cond};
 ghost use Prim.Native.Nat.{_+_, _<_, _^_};
-ghost use lib.Dec.{eqb};
 ghost use Rattle.rule.specs.Bucket.{distance, end, error, larger, lesser, level, middle, neighbours, spread, union};
 ghost use Rattle.rule.specs.Answers.{number, place};
-ghost use Rattle.rule.specs.Rules.{follows};
 
 // Ticks are 0 to one less than this.
 pub const TICKS: usize = 16777216;
@@ -205,21 +202,4 @@ impl Bucket {
     {
         self.start as usize + self.count as usize == next.start as usize
     }
-}
-
-// Where a record may start, the one before it ending at `end`: in order there, late not below it.
-pub fn follows(kind: Kind, end: usize, b: Bucket) -> bool
-    ensures { λ r. ⌜ r ≡ follows kind «end» b ⌝ }
-{
-    match kind {
-        Kind::InOrder => b.start as usize == end,
-        Kind::Late => end <= b.start as usize,
-    }
-}
-
-// 1 where the bucket begins a run, the one before it ending at `end`.
-pub fn starts_run(end: usize, b: Bucket) -> usize
-    ensures { λ r. ⌜ r ≡ cond (eqb «end» (b .start)) 0 1 ⌝ }
-{
-    if end == b.start as usize { 0 } else { 1 }
 }

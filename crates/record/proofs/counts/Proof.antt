@@ -6,7 +6,8 @@ use borrow.Author.Needs.{needs}
 use denote.Ref.{now}
 use lib.ListN.{length}
 use Rattle.rule.specs.Numbers.{recordWidth, ticks, word}
-use Rattle.record.proofs.Faults.{at-most-one, readings-done, readings-next, readings-whole, readingsLeft, runs-done, runs-next, runs-whole, runsLeft}
+use Rattle.rules.proofs.Numbered.{at-most-one}
+use Rattle.record.proofs.Faults.{readings-done, readings-next, readings-whole, readingsLeft, runs-done, runs-next, runs-whole, runsLeft}
 use Rattle.record.proofs.RoundTrip.{file-fitted}
 use Rattle.record.proofs.counts.Statement.{statement}
 use Rattle.record.proofs.counts.Tie as tie

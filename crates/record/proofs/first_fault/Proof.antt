@@ -1,21 +1,19 @@
 -- `record::first_fault` meets its contract. What is left of the pass gives the first fault of the whole; of one record, every rule passed is met.
-use Prim.Native.Nat.{ℕ, _-_, _/_, _≤_, _<_}
+use Prim.Native.Nat.{_-_, _/_, _<_}
 use mathlib.Core.Path.{_≡_, refl, sym, _∙_}
-use mathlib.Core.Bool.{true}
 use native.Mathlib.Omega.{arith}
-use borrow.Author.Count.{below-more, below-none}
 use borrow.Author.Tests.{not-false, not-true}
 use borrow.Author.Needs.{needs}
 use lib.ListN.{length}
 use denote.Ref.{now}
 use Rattle.rule.specs.Numbers.{recordWidth}
-use Rattle.record.specs.Files.{meets}
+use Rattle.rules.proofs.Numbered.{MetBelow, all-met, none-asked, one-more}
 use Rattle.record.proofs.Faults.{scan, scan-all, scan-done, scan-fault, scan-next}
 use Rattle.record.proofs.first_fault.Statement.{statement}
 use Rattle.record.proofs.first_fault.Tie as tie
 
 abbrev Inv-loop : tie.InvT-loop
-Inv-loop kind file n end i b rule₀ rule = (rule ≤ 6) × ((r : ℕ) → r < rule → meets r kind end b ≡ true)
+Inv-loop kind file n end i b rule₀ rule = MetBelow kind end b rule
 
 abbrev μ-loop : tie.MeasureT-loop
 μ-loop kind file n end i b rule₀ rule = 6 - rule
@@ -33,8 +31,7 @@ read-requires : tie.Need-read-requires Inv-loop μ-loop Inv-records μ-records
 read-requires c κs = omega arith
 
 loop-holds : tie.Need-loop-holds Inv-loop μ-loop Inv-records μ-records
-unfolding meets
-loop-holds c = (omega arith, below-more _ 0 (below-none _) refl)
+loop-holds c = none-asked _ _ _
 
 meets-requires : tie.Need-meets-requires Inv-loop μ-loop Inv-records μ-records
 meets-requires c κs = search needs
@@ -47,7 +44,8 @@ loop-less c = omega arith
 
 loop-again : tie.Need-loop-again Inv-loop μ-loop Inv-records μ-records
 loop-again c =
-    (omega arith, below-more _ _ (c .before .before .before .loop .inv .1) (sym (c .before .meets .ensures) ∙ not-false _ (c .if2 .left)))
+    let here = c .before .before .before .loop in
+    one-more _ _ _ (here .rule) (c .before .before .loop-test .taken) (here .inv) (sym (c .before .meets .ensures) ∙ not-false _ (c .if2 .left))
 
 end-requires : tie.Need-end-requires Inv-loop μ-loop Inv-records μ-records
 end-requires c κs = search needs
@@ -67,7 +65,7 @@ records-again c =
     rw (c .end .ensures)
     (sym
     (scan-next (start .args .kind) (now (start .args .file)) _ (here .end) (here .i) (read .result) (read .ensures) more
-    (λ rule h. c .before .before .loop .inv .1 rule (omega arith)))
+    (all-met _ _ _ (c .before .before .loop .rule) (c .before .loop-test .left) (c .before .before .loop .inv)))
     ∙ here .inv)
 
 returns : tie.Need-returns Inv-loop μ-loop Inv-records μ-records

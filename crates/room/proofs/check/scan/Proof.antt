@@ -5,7 +5,8 @@ use native.Mathlib.Omega.{arith}
 use borrow.Author.Needs.{needs}
 use borrow.Author.Tests.{eq-eqb, ne-eqb}
 use Rattle.rule.proofs.Ruling.{flipped}
-use Rattle.room.proofs.Scanning.{Scan, begins-bound, scan-breaks, scan-ends, scan-fails, scan-goes-on, scan-starts}
+use Rattle.rules.proofs.Numbered.{at-most-one}
+use Rattle.room.proofs.Scanning.{Scan, scan-breaks, scan-ends, scan-fails, scan-goes-on, scan-starts}
 use Rattle.room.proofs.check.scan.Statement.{statement}
 use Rattle.room.proofs.check.scan.Tie as tie
 
@@ -32,20 +33,20 @@ returns c = sym (scan-fails (c .before .before .before .loop .inv) (c .before .b
 read-requires : tie.Need-read-requires Inv-loop μ-loop
 read-requires c κs = (omega arith, flipped (c .before .slot-ranged .ensures) (c .if1 .left))
 
-meets-requires : tie.Need-meets-requires Inv-loop μ-loop
-meets-requires c κs = tt
+first-broken-requires : tie.Need-first-broken-requires Inv-loop μ-loop
+first-broken-requires c κs = tt
 
 returns-2 : tie.Need-returns-2 Inv-loop μ-loop
 returns-2 c =
     let read = c .before .before in
     let turn = read .before .before .before in
-    sym (scan-breaks (turn .before .loop .inv) (turn .loop-test .taken) _ (read .read .ensures) (flipped (c .before .meets .ensures) (c .if2 .taken)))
+    sym (scan-breaks (turn .before .loop .inv) (turn .loop-test .taken) _ (read .read .ensures) (ne-eqb _ 0 (λ none. c .if2 .taken (c .before .first-broken .ensures ∙ none))))
 
 starts-run-requires : tie.Need-starts-run-requires Inv-loop μ-loop
 starts-run-requires c κs = tt
 
 add-runs : tie.Need-add-runs Inv-loop μ-loop
-add-runs c = omega (arith, begins-bound (c .before .before .before .before .before .before .before .loop .end) (c .before .before .before .read .result))
+add-runs c = omega (arith, at-most-one (c .before .before .before .before .before .before .before .loop .end) (c .before .before .before .read .result .start))
 
 cast-readings : tie.Need-cast-readings Inv-loop μ-loop
 cast-readings c = search needs
@@ -68,7 +69,7 @@ loop-again c =
     let read = met .before .before in
     let turn = read .before .before .before in
     rw (c .before .before .starts-run .ensures, c .end .ensures)
-    (scan-goes-on (turn .before .loop .inv) (turn .loop-test .taken) _ (read .read .ensures) (flipped (read .before .before .slot-ranged .ensures) (read .before .if1 .left)) (flipped (met .before .meets .ensures) (met .if2 .left)) (omega arith))
+    (scan-goes-on (turn .before .loop .inv) (turn .loop-test .taken) _ (read .read .ensures) (flipped (read .before .before .slot-ranged .ensures) (read .before .if1 .left)) (eq-eqb _ 0 (sym (met .before .first-broken .ensures) ∙ met .if2 .left)) (omega arith))
 
 returns-3 : tie.Need-returns-3 Inv-loop μ-loop
 returns-3 c = sym (scan-ends (c .before .before .loop .inv) (c .before .loop-test .left) ∙ rw (eq-eqb (c .before .before .before .before .args .told-runs) (c .before .before .loop .runs) (c .if3 .taken)))
@@ -87,7 +88,7 @@ scan-spec =
     slot-ranged-requires
     returns
     read-requires
-    meets-requires
+    first-broken-requires
     returns-2
     starts-run-requires
     add-runs

@@ -1,8 +1,8 @@
--- `rule::follows` meets its contract: its arms are those of the definition.
+-- `rules::follows` meets its contract: its arms are those of the definition.
 use Rattle.rule.specs.Rules.{follows}
 use borrow.Author.Needs.{needs}
-use Rattle.rule.proofs.follows.Statement.{statement}
-use Rattle.rule.proofs.follows.Tie as tie
+use Rattle.rules.proofs.follows.Statement.{statement}
+use Rattle.rules.proofs.follows.Tie as tie
 
 enum-told : tie.Need-enum-told
 enum-told c = search needs

@@ -1,8 +1,8 @@
--- `rule::starts_run` meets its contract.
+-- `rules::starts_run` meets its contract.
 use borrow.Author.Needs.{needs}
 use borrow.Author.Tests.{eq-eqb, ne-eqb}
-use Rattle.rule.proofs.starts_run.Statement.{statement}
-use Rattle.rule.proofs.starts_run.Tie as tie
+use Rattle.rules.proofs.starts_run.Statement.{statement}
+use Rattle.rules.proofs.starts_run.Tie as tie
 
 cast-if1 : tie.Need-cast-if1
 cast-if1 c = search needs

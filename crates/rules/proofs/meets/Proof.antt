@@ -1,14 +1,14 @@
--- `record::meets` meets its contract, number by number.
+-- `rules::meets` meets its contract, number by number.
 use mathlib.Core.Path.{sym}
 use borrow.Author.Needs.{needs, sfits-of}
 use borrow.Author.Tests.{eq-eqb, ne-eqb}
 use mir.Syntax.{w32}
 use Rattle.rule.proofs.Signed.{equal-bits, read}
 use Rattle.rule.specs.Rules.{rules}
-use Rattle.record.specs.Files.{meets}
-use Rattle.record.proofs.Faults.{no-other}
-use Rattle.record.proofs.meets.Statement.{statement}
-use Rattle.record.proofs.meets.Tie as tie
+use Rattle.rules.specs.Numbered.{meets}
+use Rattle.rules.proofs.Numbered.{no-other}
+use Rattle.rules.proofs.meets.Statement.{statement}
+use Rattle.rules.proofs.meets.Tie as tie
 
 end-requires : tie.Need-end-requires
 end-requires c κs = search needs

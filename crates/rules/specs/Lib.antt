@@ -1,0 +1,2 @@
+-- What a rule asked by its number answers.
+pub mod Numbered

@@ -6,7 +6,7 @@ use native.Mathlib.Omega.{arith}
 use lib.IntN.{ℤ}
 use lib.ListN.{length, length-append}
 use Rattle.rule.specs.declared.Settings.{Settings}
-use Rattle.rule.specs.Numbers.{word}
+use Rattle.rule.specs.Numbers.{slotWidth, word}
 use Rattle.rule.specs.Room.{laid, slots}
 use Rattle.rule.specs.Table.{Choice, Table, nothing, pair, cheapest, limit, merge, mergeAt, mergeOf, readings, runs, settle}
 use Rattle.rule.proofs.Merging.{Answers, no-pair, a-pair, answers, lone-runs, merge-length, merge-readings, merge-runs, settle-merges, settle-rests}
@@ -50,7 +50,7 @@ merged-start {n = n} {l = l} p =
     }
 
 module _ {k most : ℕ} {l : List ℤ} {n : ℕ} {m : List ℤ} {left : ℕ} (p : Merged k most l n m left) where
-  pub merged-same-length : 4 * n ≤ length l → length m ≡ length l
+  pub merged-same-length : slotWidth * n ≤ length l → length m ≡ length l
   merged-same-length h = ap length (p .stands) ∙ length-laid n (slots m 0 left) l (omega (arith, length-slots m 0 left)) h
 
   pub merged-end : (s : Settings) → most ≡ limit s k → left ≤ most

@@ -18,7 +18,7 @@ use mir.Facts.{toZ-ofZ}
 use Rattle.rule.specs.declared.Bucket.{Bucket}
 use Rattle.rule.specs.Bucket.{end}
 use Rattle.rule.specs.Calls.{isHeld}
-use Rattle.rule.specs.Numbers.{word}
+use Rattle.rule.specs.Numbers.{slotWidth, word}
 use Rattle.rule.specs.Room.{ranged, slot, slotRanged, slots}
 use Rattle.rule.specs.Table.{Ordered, Table, holders, holding, holds, insert, runs, single}
 use Rattle.rule.proofs.Whole.{whole, by-test, cond-ind}
@@ -221,14 +221,14 @@ filled-before {l} {n} {at} {tick} w =
 
 -- the bucket in slot i starts after the tick, as the machine compares the two
 abbrev pub startsLater : List ℤ → ℕ → ℕ → Bool
-startsLater l i tick = ltZ (toZ w64 (ofZ w64 (pos tick))) (toZ w64 (ofZ w64 (getD l (4 * i) (pos 0))))
+startsLater l i tick = ltZ (toZ w64 (ofZ w64 (pos tick))) (toZ w64 (ofZ w64 (getD l (slotWidth * i) (pos 0))))
 
 start-test : (l : List ℤ) (i tick : ℕ) → slotRanged l i ≡ true → tick < word → startsLater l i tick ≡ ltb tick (slot l i .start)
 unfolding slot
 start-test l i tick e h =
     let start = ranges l i e .start in
     let fits : SFits w64 (pos tick) = omega whole in
-    let same : pos (natAbs (getD l (4 * i) (pos 0))) ≡ getD l (4 * i) (pos 0) = unsigned-pos _ start in
+    let same : pos (natAbs (getD l (slotWidth * i) (pos 0))) ≡ getD l (slotWidth * i) (pos 0) = unsigned-pos _ start in
     rw (unsigned-held _ start, toZ-ofZ fits, add-zero, ← same)
 
 -- at slot i: so many buckets passed, and those behind that start no later, are all

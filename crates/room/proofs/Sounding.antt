@@ -16,7 +16,7 @@ use Rattle.rule.specs.declared.Settings.{Settings}
 use Rattle.rule.specs.declared.State.{State}
 use Rattle.rule.specs.Bucket.{end}
 use Rattle.rule.specs.Calls.{stateOf}
-use Rattle.rule.specs.Numbers.{ticks, word}
+use Rattle.rule.specs.Numbers.{slotWidth, ticks, word}
 use Rattle.rule.specs.Room.{allOf, allZero, clauses, flat, gapsBounded, gapsGood, laid, ranged, restZero, roomy, runsAllowed, slots, sound, stepsGood, tableOf, zeros}
 use Rattle.rule.specs.Rules.{equal, ruled}
 use Rattle.rule.specs.Table.{Table, Ordered, cheapest, limit, limitOver, merge, mergeOf, needed, readings, runs, settle, Choice, nothing, pair}
@@ -33,7 +33,7 @@ pub record Facts (s : State) (l : List ℤ) : Type 0 where
   pub steps-good : stepsGood (s .settings) ≡ true
   pub gaps-good : gapsGood (s .settings .kind) (s .settings .gaps) ≡ true
   pub allowed : runsAllowed (s .settings .kind) (s .settings .gaps) (s .runs) ≡ true
-  pub long : 4 * needed (s .settings) ≤ length l
+  pub long : slotWidth * needed (s .settings) ≤ length l
   pub few : s .used ≤ limit (s .settings) (s .runs)
   pub ranges : ranged l 0 (s .used) ≡ true
   pub rules : Ruled (s .settings .kind) 0 (tableOf s l)
@@ -55,7 +55,7 @@ sound-facts s l e =
       steps-good = all-at (clauses s l) 0 e;
       gaps-good = all-at (clauses s l) 1 e;
       allowed = all-at (clauses s l) 2 e;
-      long = leb-true (4 * needed (s .settings)) (length l) (all-at (clauses s l) 3 e);
+      long = leb-true (slotWidth * needed (s .settings)) (length l) (all-at (clauses s l) 3 e);
       few = leb-true (s .used) (limit (s .settings) (s .runs)) (all-at (clauses s l) 4 e);
       ranges = all-at (clauses s l) 5 e;
       rules = ruled-facts (s .settings .kind) 0 0 (tableOf s l) (all-at (clauses s l) 6 e);
@@ -71,7 +71,7 @@ facts-sound s l f =
       f .steps-good,
       f .gaps-good,
       f .allowed,
-      le-leb (4 * needed (s .settings)) (length l) (f .long),
+      le-leb (slotWidth * needed (s .settings)) (length l) (f .long),
       le-leb (s .used) (limit (s .settings) (s .runs)) (f .few),
       f .ranges,
       facts-ruled (s .settings .kind) 0 0 (tableOf s l) (f .rules),
@@ -105,11 +105,11 @@ module _ (s : State) (l : List ℤ) (f : Facts s l) where
   unfolding restZero
   laid-needed w h =
       let n = needed (s .settings) in
-      let parts : 4 * (n - s .used) ≡ 4 + 4 * (n - suc (s .used)) = omega (arith, used-needed) in
-      let there : 4 * s .used + 4 ≡ 4 * suc (s .used) = omega arith in
-      let e : allZero (take (4 + 4 * (n - suc (s .used))) (drop (4 * s .used) l)) ≡ true = rw parts at (f .rest) in
-      let e′ : allZero (take (4 * (n - suc (s .used))) (drop 4 (drop (4 * s .used) l))) ≡ true = zero-part 4 (4 * (n - suc (s .used))) (drop (4 * s .used) l) e in
-      laid-more (suc (s .used)) n w l h used-needed (f .long) (rw (drop-drop 4 (4 * s .used) l, there) at e′)
+      let parts : slotWidth * (n - s .used) ≡ 4 + slotWidth * (n - suc (s .used)) = omega (arith, used-needed) in
+      let there : slotWidth * s .used + 4 ≡ slotWidth * suc (s .used) = omega arith in
+      let e : allZero (take (4 + slotWidth * (n - suc (s .used))) (drop (slotWidth * s .used) l)) ≡ true = rw parts at (f .rest) in
+      let e′ : allZero (take (slotWidth * (n - suc (s .used))) (drop 4 (drop (slotWidth * s .used) l))) ≡ true = zero-part 4 (slotWidth * (n - suc (s .used))) (drop (slotWidth * s .used) l) e in
+      laid-more (suc (s .used)) n w l h used-needed (f .long) (rw (drop-drop 4 (slotWidth * s .used) l, there) at e′)
 
 length-zeros : (n : ℕ) → length (zeros n) ≡ n
 unfolding zeros
@@ -123,12 +123,12 @@ all-zeros (suc n) = all-zeros n
 pub rest-laid : (s : Settings) (w : Table) (l : List ℤ) → restZero (stateOf s w) (laid (needed s) w l) ≡ true
 unfolding restZero laid
 rest-laid s w l =
-    let k : ℕ = 4 * (needed s - length w) in
-    rw (drop-at (flat w) (zeros k ++ drop (4 * needed s) l) (4 * length w) (length-flat w), take-at (zeros k) (drop (4 * needed s) l) k (length-zeros k)) (all-zeros k)
+    let k : ℕ = slotWidth * (needed s - length w) in
+    rw (drop-at (flat w) (zeros k ++ drop (slotWidth * needed s) l) (slotWidth * length w) (length-flat w), take-at (zeros k) (drop (slotWidth * needed s) l) k (length-zeros k)) (all-zeros k)
 
 -- a table that meets what a sound state asks, laid
 pub laid-facts : (s : Settings) (w : Table) (l : List ℤ) → stepsGood s ≡ true → gapsGood (s .kind) (s .gaps) ≡ true → runsAllowed (s .kind) (s .gaps) (runs w) ≡ true
-    → 4 * needed s ≤ length l → length w ≤ limit s (runs w) → Fitted w → Ruled (s .kind) 0 w → Facts (stateOf s w) (laid (needed s) w l)
+    → slotWidth * needed s ≤ length l → length w ≤ limit s (runs w) → Fitted w → Ruled (s .kind) 0 w → Facts (stateOf s w) (laid (needed s) w l)
 laid-facts s w l steps gaps allowed long few fitted rules =
     let n : ℕ = needed s in
     let within : length w ≤ n = omega (arith, limit-gaps (s .kind) (2 * s .steps) (s .gaps) (runs w) allowed) in

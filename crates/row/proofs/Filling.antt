@@ -12,6 +12,7 @@ use lib.Seq.{append-snoc, drop-cons, set-at, take-at}
 use Rattle.rule.specs.declared.Refusal.{Refusal}
 use Rattle.rule.specs.declared.State.{State}
 use Rattle.rule.specs.declared.Written.{Written}
+use Rattle.rule.specs.Numbers.{slotWidth}
 use Rattle.rule.specs.Calls.{Verdict, accepted, refuse, refused, rowOutcome, writeVerdict, wrote}
 use Rattle.rule.specs.Room.{flat, slot, slotRanged, slots, sound, tableOf}
 use Rattle.rule.specs.Table.{Table}
@@ -50,9 +51,9 @@ module _ (s : State) (l : List ℤ) where
   number-fits n = verdict n (λ v. number (answer v) ≤ n) (λ r. omega arith) (λ e h. omega (arith, length-slots l 0 (s .used)))
 
   -- each bucket that is counted can be read
-  pub readable : (n i : ℕ) → i < number (rowAnswer s l n) → (4 * suc i ≤ length l) × (slotRanged l i ≡ true)
+  pub readable : (n i : ℕ) → i < number (rowAnswer s l n) → (slotWidth * suc i ≤ length l) × (slotRanged l i ≡ true)
   unfolding answer number
-  readable n i = verdict n (λ v. i < number (answer v) → (4 * suc i ≤ length l) × (slotRanged l i ≡ true)) (λ r k. absurd (omega arith))
+  readable n i = verdict n (λ v. i < number (answer v) → (slotWidth * suc i ≤ length l) × (slotRanged l i ≡ true)) (λ r k. absurd (omega arith))
       (λ e h k. filled (sound-filled s l (sound-facts s l e)) i (omega (arith, length-slots l 0 (s .used))))
 
   -- all places written are the outcome
@@ -61,10 +62,10 @@ module _ (s : State) (l : List ℤ) where
   all-written out = verdict (length out) (λ v. (answer v, upTo l (number (answer v)) out) ≡ wrote (λ t. t) out v) (λ r. refl) (λ e h. rw (length-slots l 0 (s .used)))
 
   -- the used numbers of a sound room are the buckets' own
-  pub numbers-written : (out : List ℤ) → sound s l ≡ true → 4 * s .used ≤ length out → numbersOutcome s l out ≡ (Written.Buckets (s .used), take (4 * s .used) l ++ drop (4 * s .used) out)
+  pub numbers-written : (out : List ℤ) → sound s l ≡ true → slotWidth * s .used ≤ length out → numbersOutcome s l out ≡ (Written.Buckets (s .used), take (slotWidth * s .used) l ++ drop (slotWidth * s .used) out)
   unfolding writeVerdict refuse wrote
   numbers-written out e h =
       let f = sound-filled s l (sound-facts s l e) in
-      let long : length (flat (tableOf s l)) ≡ 4 * s .used = length-flat (tableOf s l) ∙ ap (λ (n : ℕ). 4 * n) (length-slots l 0 (s .used)) in
-      let front : take (4 * s .used) l ≡ flat (tableOf s l) = ap (take (4 * s .used)) (sym (flat-slots (s .used) l (f .there) (f .ranges))) ∙ take-at (flat (tableOf s l)) (drop (4 * s .used) l) (4 * s .used) long in
-      rw (e, le-ltb (length out) (4 * s .used) h, front, length-slots l 0 (s .used), long)
+      let long : length (flat (tableOf s l)) ≡ slotWidth * s .used = length-flat (tableOf s l) ∙ ap (λ (n : ℕ). slotWidth * n) (length-slots l 0 (s .used)) in
+      let front : take (slotWidth * s .used) l ≡ flat (tableOf s l) = ap (take (slotWidth * s .used)) (sym (flat-slots (s .used) l (f .there) (f .ranges))) ∙ take-at (flat (tableOf s l)) (drop (slotWidth * s .used) l) (slotWidth * s .used) long in
+      rw (e, le-ltb (length out) (slotWidth * s .used) h, front, length-slots l 0 (s .used), long)

@@ -94,13 +94,13 @@ loaded-next f l i =
     ∙ rw (records-last f 0 i, zero-add i, drop-drop slotWidth (slotWidth * i) l, e)
 
 -- what is left where the slots behind are cleared
-pub cleared : (f : List ℕ) (l : List ℤ) (i n : ℕ) → i ≤ n → take (4 * i) (loadedUpTo f l i) ++ (zeros (4 * n - 4 * i) ++ drop (4 * n) (loadedUpTo f l i)) ≡ laid n (records f 0 i) l
+pub cleared : (f : List ℕ) (l : List ℤ) (i n : ℕ) → i ≤ n → take (slotWidth * i) (loadedUpTo f l i) ++ (zeros (slotWidth * n - slotWidth * i) ++ drop (slotWidth * n) (loadedUpTo f l i)) ≡ laid n (records f 0 i) l
 unfolding laid
 cleared f l i n h =
     let t = records f 0 i in
-    let long : length (flat t) ≡ 4 * i = length-flat t ∙ omega (arith, length-records f 0 i) in
-    let left : 4 * n - 4 * i ≡ 4 * (n - length t) = omega (arith, length-records f 0 i) in
-    rw (take-at (flat t) (drop (4 * i) l) (4 * i) long, left, drop-past (flat t) l (4 * i) (4 * n) long (omega arith))
+    let long : length (flat t) ≡ slotWidth * i = length-flat t ∙ omega (arith, length-records f 0 i) in
+    let left : slotWidth * n - slotWidth * i ≡ slotWidth * (n - length t) = omega (arith, length-records f 0 i) in
+    rw (take-at (flat t) (drop (slotWidth * i) l) (slotWidth * i) long, left, drop-past (flat t) l (slotWidth * i) (slotWidth * n) long (omega arith))
 
 -- ---- verdicts
 

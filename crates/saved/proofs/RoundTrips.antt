@@ -38,11 +38,11 @@ gaps-same InOrder gaps h = sym (eqb-true gaps 0 h)
 gaps-same Late gaps h = refl
 
 -- the needed slots of what is laid: the buckets, and zeros
-take-laid : (n : ℕ) (t : Table) (l : List ℤ) → length t ≤ n → take (4 * n) (laid n t l) ≡ flat t ++ zeros (4 * (n - length t))
+take-laid : (n : ℕ) (t : Table) (l : List ℤ) → length t ≤ n → take (slotWidth * n) (laid n t l) ≡ flat t ++ zeros (slotWidth * (n - length t))
 unfolding laid zeros
 take-laid n t l h =
-    rw (← append-assoc (flat t) (zeros (4 * (n - length t))) (drop (4 * n) l))
-    (take-at (flat t ++ zeros (4 * (n - length t))) (drop (4 * n) l) (4 * n) (simp (length-append, length-replicate, length-flat) (omega arith)))
+    rw (← append-assoc (flat t) (zeros (slotWidth * (n - length t))) (drop (slotWidth * n) l))
+    (take-at (flat t ++ zeros (slotWidth * (n - length t))) (drop (slotWidth * n) l) (slotWidth * n) (simp (length-append, length-replicate, length-flat) (omega arith)))
 
 module _ (s : State) (l : List ℤ) (whole : sound s l ≡ true) where
   facts : Facts s l

@@ -1,15 +1,15 @@
 -- The buckets that ranged slots hold have their numbers in their fields' ranges; slots laid of such buckets are filled.
 use Prim.Native.Nat.{ℕ, zero, suc, _*_, _-_, _≤_, _<_}
 use mathlib.Core.Path.{_≡_, refl, _∙_}
-use mathlib.Core.Bool.{true, false≢true}
+use mathlib.Core.Bool.{true}
 use mathlib.Core.List.{List, [], _∷_, _++_}
 use native.Mathlib.Omega.{arith}
 use native.Mathlib.Nat.{add-zero}
-use lib.IntN.{ℤ, pos, negsuc, natAbs}
+use lib.IntN.{ℤ, pos}
 use lib.ListN.{length, drop}
 use lib.Signed.{leZ, ltZ}
-use Rattle.rule.specs.Numbers.{word}
-use Rattle.rule.specs.Room.{flat, laid, ranged, slot, slotRanged, slots, unsigned, within, zeros}
+use Rattle.rule.specs.Numbers.{slotWidth, word}
+use Rattle.rule.specs.Room.{flat, laid, numbers, ranged, slot, slotRanged, slots, unsigned, within, zeros}
 use Rattle.rule.specs.Table.{Table}
 use Rattle.rule.proofs.Whole.{whole}
 use Rattle.rule.proofs.Fitting.{Fitted, Fitting}
@@ -17,20 +17,15 @@ use Rattle.rule.proofs.Signed.{fits-signed, signed-fits}
 use Rattle.slots.specs.Slots.{Filled}
 use Rattle.rule.proofs.Ruling.{and-both, and-left, and-right}
 use Rattle.slots.proofs.Laying.{length-laid, ranged-behind}
-use Rattle.slots.proofs.Reading.{ranges}
+use Rattle.slots.proofs.Reading.{ranges, unsigned-fits}
 
 -- ---- read from ranged slots
-
-unsigned-below : (z : ℤ) → unsigned z ≡ true → natAbs z < word
-unfolding within
-unsigned-below (pos n) e = omega (whole, and-right (leZ (pos 0) (pos n)) (ltZ (pos n) (pos word)) e)
-unsigned-below (negsuc n) e = absurd (false≢true e)
 
 pub fitting-slot : (l : List ℤ) (i : ℕ) → slotRanged l i ≡ true → Fitting (slot l i)
 unfolding slot
 fitting-slot l i e =
     let r = ranges l i e in
-    record { start = rw add-zero (unsigned-below _ (r .start)); count = unsigned-below _ (r .count); least = signed-fits _ (r .least); largest = signed-fits _ (r .largest) }
+    record { start = rw add-zero (unsigned-fits _ (r .start) .1 .fits); count = unsigned-fits _ (r .count) .1 .fits; least = signed-fits _ (r .least); largest = signed-fits _ (r .largest) }
 
 pub fitted-slots : (l : List ℤ) (i n : ℕ) → ranged l i n ≡ true → Fitted (slots l i n)
 unfolding Fitted ranged slots
@@ -50,9 +45,9 @@ ranged-flat (b ∷ t) r f =
     let g = f .0 in
     and-both
     (and-both (and-both (and-both (unsigned-in (b .start) (g .start)) (unsigned-in (b .count) (g .count))) (fits-signed (b .least) (g .least))) (fits-signed (b .largest) (g .largest)))
-    (ranged-behind (pos (b .start)) (pos (b .count)) (b .least) (b .largest) (flat t ++ r) 0 (length t) ∙ ranged-flat t r (f .1))
+    (ranged-behind (numbers b) (flat t ++ r) refl 0 (length t) ∙ ranged-flat t r (f .1))
 
-pub filled-laid : (n : ℕ) (t : Table) (l : List ℤ) → length t ≤ n → 4 * n ≤ length l → Fitted t → Filled (laid n t l) (length t)
+pub filled-laid : (n : ℕ) (t : Table) (l : List ℤ) → length t ≤ n → slotWidth * n ≤ length l → Fitted t → Filled (laid n t l) (length t)
 unfolding laid
 filled-laid n t l h k f =
-    record { there = omega (arith, length-laid n t l h k); ranges = ranged-flat t (zeros (4 * (n - length t)) ++ drop (4 * n) l) f }
+    record { there = omega (arith, length-laid n t l h k); ranges = ranged-flat t (zeros (slotWidth * (n - length t)) ++ drop (slotWidth * n) l) f }

@@ -1,15 +1,18 @@
--- A table lies in the lent numbers: slots read off what was laid are the buckets, and numbers laid from what was read are the numbers. All counting by four is here.
+-- A table lies in the lent numbers: slots read off what was laid are the buckets, and numbers laid from what was read are the numbers. All counting by the width of a slot is here.
 use Prim.Native.Nat.{ℕ, zero, suc, _+_, _*_, _-_, _≤_, _<_}
 use mathlib.Core.Path.{_≡_, refl, sym, ap, _∙_}
-use mathlib.Core.Bool.{Bool, true, false, _&&_}
+use mathlib.Core.Bool.{true}
 use mathlib.Core.List.{List, [], _∷_, _++_, append-assoc}
 use native.Mathlib.Omega.{arith}
-use lib.IntN.{ℤ, pos, negsuc, natAbs}
-use lib.ListN.{length, getD, take, drop, length-append, length-drop, length-replicate, length-take, replicate-append-replicate, take-append-drop}
-use lib.Seq.{drop-at, drop-drop, length-take-le, take-append-le, take-at, take-take}
+use native.Mathlib.Nat.{add-zero, zero-add}
+use native.Mathlib.Numerals.{add-one, add-two, add-three}
+use lib.IntN.{ℤ, pos}
+use lib.ListN.{length, take, drop, length-append, length-drop, length-replicate, length-take, replicate-append-replicate, take-append-drop}
+use lib.Seq.{drop-at, drop-cons, drop-drop, getD-append-add, length-take-le, take-append-le, take-at, take-take}
 use lib.Signed.{leZ}
 use Rattle.rule.specs.declared.Bucket.{Bucket}
-use Rattle.rule.specs.Room.{allZero, field, flat, laid, numbers, ranged, signed, slot, slotRanged, slots, unsigned, within, zeros}
+use Rattle.rule.specs.Numbers.{slotWidth}
+use Rattle.rule.specs.Room.{allZero, field, flat, laid, numbers, ranged, slot, slotRanged, slots, zeros}
 use Rattle.rule.specs.Bucket.{union}
 use Rattle.rule.specs.Rules.{equal}
 use Rattle.rule.proofs.Ruling.{and-left, and-right}
@@ -17,36 +20,36 @@ use Rattle.rule.specs.Table.{Table, mergeAt, readings}
 use Rattle.rule.proofs.Merging.{merged-at}
 use Rattle.rule.proofs.Whole.{whole}
 use Rattle.slots.specs.Slots.{Filled, put}
+use Rattle.slots.proofs.Reading.{ranges, unsigned-pos}
 use Rattle.slots.proofs.Shifting.{between, between-at, drop-both, drop-past, lowered, lowered-parts, raised}
 
--- four numbers more in front: every slot stands one place later
-field-behind : (w x y z : ℤ) (l : List ℤ) (i j : ℕ) → field (w ∷ x ∷ y ∷ z ∷ l) (suc i) j ≡ field l i j
-field-behind w x y z l i j = ap (λ (k : ℕ). getD (w ∷ x ∷ y ∷ z ∷ l) k (pos 0)) four
-  where
-    four : 4 * suc i + j ≡ suc (suc (suc (suc (4 * i + j))))
-    four = omega arith
+-- a slot more in front: every slot stands one place later
+module _ (front l : List ℤ) (wide : length front ≡ slotWidth) where
+  field-behind : (i j : ℕ) → field (front ++ l) (suc i) j ≡ field l i j
+  field-behind i j =
+      let past : slotWidth * suc i + j ≡ length front + (slotWidth * i + j) = omega arith in
+      rw past (getD-append-add front l (slotWidth * i + j) (pos 0))
 
-slot-behind : (w x y z : ℤ) (l : List ℤ) (i : ℕ) → slot (w ∷ x ∷ y ∷ z ∷ l) (suc i) ≡ slot l i
-unfolding slot
-slot-behind w x y z l i = simp (field-behind w x y z l i)
+  slot-behind : (i : ℕ) → slot (front ++ l) (suc i) ≡ slot l i
+  unfolding slot
+  slot-behind i = simp (field-behind i)
 
-pub slots-behind : (w x y z : ℤ) (l : List ℤ) (i n : ℕ) → slots (w ∷ x ∷ y ∷ z ∷ l) (suc i) n ≡ slots l i n
-unfolding slots
-slots-behind w x y z l i zero = refl
-slots-behind w x y z l i (suc n) = rw (slot-behind w x y z l i, slots-behind w x y z l (suc i) n)
+  pub slots-behind : (i n : ℕ) → slots (front ++ l) (suc i) n ≡ slots l i n
+  unfolding slots
+  slots-behind i zero = refl
+  slots-behind i (suc n) = rw (slot-behind i, slots-behind (suc i) n)
 
-pub ranged-behind : (w x y z : ℤ) (l : List ℤ) (i n : ℕ) → ranged (w ∷ x ∷ y ∷ z ∷ l) (suc i) n ≡ ranged l i n
-unfolding ranged slotRanged
-ranged-behind w x y z l i zero = refl
-ranged-behind w x y z l i (suc n) =
-    rw (field-behind w x y z l i 0, field-behind w x y z l i 1, field-behind w x y z l i 2, field-behind w x y z l i 3, ranged-behind w x y z l (suc i) n)
+  pub ranged-behind : (i n : ℕ) → ranged (front ++ l) (suc i) n ≡ ranged l i n
+  unfolding ranged slotRanged
+  ranged-behind i zero = refl
+  ranged-behind i (suc n) = simp (field-behind i, ranged-behind (suc i) n)
 
 pub length-slots : (l : List ℤ) (i n : ℕ) → length (slots l i n) ≡ n
 unfolding slots
 length-slots l i zero = refl
 length-slots l i (suc n) = ap suc (length-slots l (suc i) n)
 
-pub length-flat : (t : Table) → length (flat t) ≡ 4 * length t
+pub length-flat : (t : Table) → length (flat t) ≡ slotWidth * length t
 unfolding flat
 length-flat [] = refl
 length-flat (b ∷ t) = omega (arith, length-flat t)
@@ -60,27 +63,44 @@ flat-append (b ∷ t) u = ap (λ (l : List ℤ). numbers b ++ l) (flat-append t 
 pub slots-flat : (t : Table) (r : List ℤ) → slots (flat t ++ r) 0 (length t) ≡ t
 unfolding flat slots slot
 slots-flat [] r = refl
-slots-flat (b ∷ t) r = ap (λ (u : Table). b ∷ u) (slots-behind (pos (b .start)) (pos (b .count)) (b .least) (b .largest) (flat t ++ r) 0 (length t) ∙ slots-flat t r)
-
-pub unsigned-pos : (z : ℤ) → unsigned z ≡ true → pos (natAbs z) ≡ z
-unfolding within
-unsigned-pos (pos n) e = refl
-unsigned-pos (negsuc n) e = absurd (mathlib.Core.Bool.false≢true e)
+slots-flat (b ∷ t) r = ap (λ (u : Table). b ∷ u) (slots-behind (numbers b) (flat t ++ r) refl 0 (length t) ∙ slots-flat t r)
 
 -- numbers in range are laid as they were read
-pub flat-slots : (n : ℕ) (l : List ℤ) → 4 * n ≤ length l → ranged l 0 n ≡ true → flat (slots l 0 n) ++ drop (4 * n) l ≡ l
-unfolding flat slots slot ranged slotRanged
-flat-slots zero l h e = refl
-flat-slots (suc n) [] h e = absurd (omega arith)
-flat-slots (suc n) (w ∷ []) h e = absurd (omega arith)
-flat-slots (suc n) (w ∷ x ∷ []) h e = absurd (omega arith)
-flat-slots (suc n) (w ∷ x ∷ y ∷ []) h e = absurd (omega arith)
-flat-slots (suc n) (w ∷ x ∷ y ∷ z ∷ l) h e =
-    let e₀ = and-left (slotRanged (w ∷ x ∷ y ∷ z ∷ l) 0) (ranged (w ∷ x ∷ y ∷ z ∷ l) 1 n) e in
-    let e₁ = and-left (unsigned w && unsigned x) (signed y) (and-left (unsigned w && unsigned x && signed y) (signed z) e₀) in
-    let rest : ranged l 0 n ≡ true = sym (ranged-behind w x y z l 0 n) ∙ and-right (slotRanged (w ∷ x ∷ y ∷ z ∷ l) 0) (ranged (w ∷ x ∷ y ∷ z ∷ l) 1 n) e in
-    let four : 4 * suc n ≡ suc (suc (suc (suc (4 * n)))) = omega arith in
-    rw (slots-behind w x y z l 0 n, ap (λ (k : ℕ). drop k (w ∷ x ∷ y ∷ z ∷ l)) four, unsigned-pos w (and-left (unsigned w) (unsigned x) e₁), unsigned-pos x (and-right (unsigned w) (unsigned x) e₁), flat-slots n l (omega arith) rest)
+numbers-slot : (l : List ℤ) (i : ℕ) → slotWidth * suc i ≤ length l → slotRanged l i ≡ true → numbers (slot l i) ++ drop (slotWidth * suc i) l ≡ drop (slotWidth * i) l
+unfolding slot
+numbers-slot l i h e =
+    let k = slotWidth * i in
+    let r = ranges l i e in
+    let next : slotWidth * suc i ≡ suc (suc (suc (suc k))) = omega arith in
+    let h0 : k < length l = omega arith in
+    let h1 : suc k < length l = omega arith in
+    let h2 : suc (suc k) < length l = omega arith in
+    let h3 : suc (suc (suc k)) < length l = omega arith in
+    rw (
+      next,
+      drop-cons l k (pos 0) h0,
+      drop-cons l (suc k) (pos 0) h1,
+      drop-cons l (suc (suc k)) (pos 0) h2,
+      drop-cons l (suc (suc (suc k))) (pos 0) h3,
+      unsigned-pos _ (r .count),
+      add-one,
+      add-two,
+      add-three,
+      add-zero,
+      unsigned-pos _ (r .start),
+    )
+
+slots-numbers : (n i : ℕ) (l : List ℤ) → slotWidth * (i + n) ≤ length l → ranged l i n ≡ true → flat (slots l i n) ++ drop (slotWidth * (i + n)) l ≡ drop (slotWidth * i) l
+unfolding flat slots ranged
+slots-numbers zero i l h e = rw add-zero
+slots-numbers (suc n) i l h e =
+    let next : i + suc n ≡ suc i + n = omega arith in
+    let first = and-left (slotRanged l i) (ranged l (suc i) n) e in
+    let rest = and-right (slotRanged l i) (ranged l (suc i) n) e in
+    rw (next, slots-numbers n (suc i) l (omega arith) rest) (numbers-slot l i (omega arith) first)
+
+pub flat-slots : (n : ℕ) (l : List ℤ) → slotWidth * n ≤ length l → ranged l 0 n ≡ true → flat (slots l 0 n) ++ drop (slotWidth * n) l ≡ l
+flat-slots n l h e = rw zero-add at (slots-numbers n 0 l (omega arith) e)
 
 -- ---- slots one after the other
 
@@ -94,58 +114,58 @@ slots-split l i j (suc m) n zero e f = absurd (omega arith)
 slots-split l i j (suc m) n (suc k) e f = ap (λ (t : Table). slot l i ∷ t) (slots-split l (suc i) j m n k (omega arith) (omega arith))
 
 -- slots that hold a table in two parts
-pub filled-parts : (l : List ℤ) (n : ℕ) (x y : Table) → Filled l n → slots l 0 n ≡ x ++ y → l ≡ flat x ++ (flat y ++ drop (4 * n) l)
+pub filled-parts : (l : List ℤ) (n : ℕ) (x y : Table) → Filled l n → slots l 0 n ≡ x ++ y → l ≡ flat x ++ (flat y ++ drop (slotWidth * n) l)
 filled-parts l n x y f e =
-    sym (flat-slots n l (f .there) (f .ranges)) ∙ ap (λ (t : Table). flat t ++ drop (4 * n) l) e ∙ rw (flat-append x y) (append-assoc (flat x) (flat y) (drop (4 * n) l))
+    sym (flat-slots n l (f .there) (f .ranges)) ∙ ap (λ (t : Table). flat t ++ drop (slotWidth * n) l) e ∙ rw (flat-append x y) (append-assoc (flat x) (flat y) (drop (slotWidth * n) l))
 
 -- ---- one slot written
 
 pub put-flat : (x : Table) (a b : Bucket) (r : List ℤ) (i : ℕ) → length x ≡ i → put (flat x ++ (numbers a ++ r)) i b ≡ flat x ++ (numbers b ++ r)
 unfolding put
 put-flat x a b r i e =
-    let here : length (flat x) ≡ 4 * i = length-flat x ∙ omega arith in
-    rw (take-at (flat x) (numbers a ++ r) (4 * i) here, drop-both (flat x) (numbers a) r (4 * suc i) (omega arith))
+    let here : length (flat x) ≡ slotWidth * i = length-flat x ∙ omega arith in
+    rw (take-at (flat x) (numbers a ++ r) (slotWidth * i) here, drop-both (flat x) (numbers a) r (slotWidth * suc i) (omega arith))
 
 -- over the last slot of a front
-put-front : (l r : List ℤ) (i : ℕ) (b : Bucket) → 4 * i + 4 ≤ length l → put (take (4 * i + 4) l ++ r) i b ≡ take (4 * i) l ++ (numbers b ++ r)
+put-front : (l r : List ℤ) (i : ℕ) (b : Bucket) → slotWidth * i + slotWidth ≤ length l → put (take (slotWidth * i + slotWidth) l ++ r) i b ≡ take (slotWidth * i) l ++ (numbers b ++ r)
 unfolding put
 put-front l r i b h =
-    let long : length (take (4 * i + 4) l) ≡ 4 * suc i = length-take-le (4 * i + 4) l h ∙ omega arith in
-    rw (drop-at (take (4 * i + 4) l) r (4 * suc i) long, take-append-le (4 * i) (take (4 * i + 4) l) r (omega arith), take-take (4 * i) (4 * i + 4) l (omega arith))
+    let long : length (take (slotWidth * i + slotWidth) l) ≡ slotWidth * suc i = length-take-le (slotWidth * i + slotWidth) l h ∙ omega arith in
+    rw (drop-at (take (slotWidth * i + slotWidth) l) r (slotWidth * suc i) long, take-append-le (slotWidth * i) (take (slotWidth * i + slotWidth) l) r (omega arith), take-take (slotWidth * i) (slotWidth * i + slotWidth) l (omega arith))
 
 -- ---- what is laid
 
 module _ (n : ℕ) (t : Table) (l : List ℤ) where
   pub slots-laid : slots (laid n t l) 0 (length t) ≡ t
   unfolding laid
-  slots-laid = slots-flat t (zeros (4 * (n - length t)) ++ drop (4 * n) l)
+  slots-laid = slots-flat t (zeros (slotWidth * (n - length t)) ++ drop (slotWidth * n) l)
 
-  pub laid-over : length t ≡ n → laid n t l ≡ flat t ++ drop (4 * n) l
+  pub laid-over : length t ≡ n → laid n t l ≡ flat t ++ drop (slotWidth * n) l
   unfolding laid zeros
-  laid-over e = let none : 4 * (n - length t) ≡ 0 = omega arith in rw none
+  laid-over e = let none : slotWidth * (n - length t) ≡ 0 = omega arith in rw none
 
 module _ (n : ℕ) (t : Table) (l : List ℤ) (h : length t ≤ n) where
   laid-front : List ℤ
-  laid-front = flat t ++ zeros (4 * (n - length t))
+  laid-front = flat t ++ zeros (slotWidth * (n - length t))
 
-  laid-split : laid n t l ≡ laid-front ++ drop (4 * n) l
+  laid-split : laid n t l ≡ laid-front ++ drop (slotWidth * n) l
   unfolding laid laid-front
-  laid-split = sym (append-assoc (flat t) (zeros (4 * (n - length t))) (drop (4 * n) l))
+  laid-split = sym (append-assoc (flat t) (zeros (slotWidth * (n - length t))) (drop (slotWidth * n) l))
 
-  length-front : length laid-front ≡ 4 * n
+  length-front : length laid-front ≡ slotWidth * n
   unfolding laid-front zeros
   length-front = simp (length-append, length-replicate, length-flat) (omega arith)
 
-  pub drop-laid : (m : ℕ) → n ≤ m → drop (4 * m) (laid n t l) ≡ drop (4 * m) l
-  drop-laid m k = rw laid-split (drop-past laid-front l (4 * n) (4 * m) length-front (omega arith))
+  pub drop-laid : (m : ℕ) → n ≤ m → drop (slotWidth * m) (laid n t l) ≡ drop (slotWidth * m) l
+  drop-laid m k = rw laid-split (drop-past laid-front l (slotWidth * n) (slotWidth * m) length-front (omega arith))
 
-  pub length-laid : 4 * n ≤ length l → length (laid n t l) ≡ length l
+  pub length-laid : slotWidth * n ≤ length l → length (laid n t l) ≡ length l
   length-laid k = rw laid-split (simp (length-append, length-drop, length-front) (omega arith))
 
   -- what was laid before, no further, is not seen
   pub laid-laid : (m : ℕ) (u : Table) → n ≤ m → laid m u (laid n t l) ≡ laid m u l
   unfolding laid
-  laid-laid m u k = ap (λ (r : List ℤ). flat u ++ (zeros (4 * (m - length u)) ++ r)) (drop-laid m k)
+  laid-laid m u k = ap (λ (r : List ℤ). flat u ++ (zeros (slotWidth * (m - length u)) ++ r)) (drop-laid m k)
 
 -- ---- zeros behind a table
 
@@ -160,46 +180,46 @@ all-zero (z ∷ l) e =
     ap (λ (y : ℤ). y ∷ l) none ∙ ap (λ (m : List ℤ). pos 0 ∷ m) (all-zero l (and-right (equal z (pos 0)) (allZero l) e))
 
 -- laid up to m where zeros follow up to n is laid up to n
-laid-joined : (m n : ℕ) (t : Table) (k l : List ℤ) → length t ≤ m → m ≤ n → drop (4 * m) k ≡ zeros (4 * (n - m)) ++ drop (4 * n) l → laid m t k ≡ laid n t l
+laid-joined : (m n : ℕ) (t : Table) (k l : List ℤ) → length t ≤ m → m ≤ n → drop (slotWidth * m) k ≡ zeros (slotWidth * (n - m)) ++ drop (slotWidth * n) l → laid m t k ≡ laid n t l
 unfolding laid zeros
 laid-joined m n t k l h g rest =
-    let sum : 4 * (m - length t) + 4 * (n - m) ≡ 4 * (n - length t) = omega arith in
-    rw (rest, ← append-assoc (zeros (4 * (m - length t))) (zeros (4 * (n - m))) (drop (4 * n) l), replicate-append-replicate (4 * (m - length t)) (4 * (n - m)) (pos 0), sum)
+    let sum : slotWidth * (m - length t) + slotWidth * (n - m) ≡ slotWidth * (n - length t) = omega arith in
+    rw (rest, ← append-assoc (zeros (slotWidth * (m - length t))) (zeros (slotWidth * (n - m))) (drop (slotWidth * n) l), replicate-append-replicate (slotWidth * (m - length t)) (slotWidth * (n - m)) (pos 0), sum)
 
-pub laid-more : (m n : ℕ) (t : Table) (l : List ℤ) → length t ≤ m → m ≤ n → 4 * n ≤ length l → allZero (take (4 * (n - m)) (drop (4 * m) l)) ≡ true → laid m t l ≡ laid n t l
+pub laid-more : (m n : ℕ) (t : Table) (l : List ℤ) → length t ≤ m → m ≤ n → slotWidth * n ≤ length l → allZero (take (slotWidth * (n - m)) (drop (slotWidth * m) l)) ≡ true → laid m t l ≡ laid n t l
 laid-more m n t l h k g e =
-    let long : length (take (4 * (n - m)) (drop (4 * m) l)) ≡ 4 * (n - m) = simp (length-take, length-drop) (omega arith) in
-    let there : 4 * m + 4 * (n - m) ≡ 4 * n = omega arith in
+    let long : length (take (slotWidth * (n - m)) (drop (slotWidth * m) l)) ≡ slotWidth * (n - m) = simp (length-take, length-drop) (omega arith) in
+    let there : slotWidth * m + slotWidth * (n - m) ≡ slotWidth * n = omega arith in
     laid-joined m n t l l h k
-    (sym (take-append-drop (4 * (n - m)) (drop (4 * m) l)) ∙ rw (all-zero (take (4 * (n - m)) (drop (4 * m) l)) e, long, drop-drop (4 * (n - m)) (4 * m) l, there))
+    (sym (take-append-drop (slotWidth * (n - m)) (drop (slotWidth * m) l)) ∙ rw (all-zero (take (slotWidth * (n - m)) (drop (slotWidth * m) l)) e, long, drop-drop (slotWidth * (n - m)) (slotWidth * m) l, there))
 
 -- fewer buckets laid over a table that was laid
 pub laid-within : (m n : ℕ) (t u : Table) (l : List ℤ) → length t ≤ m → length u ≡ m → m ≤ n → laid m t (laid n u l) ≡ laid n t l
 unfolding laid
 laid-within m n t u l h e k =
-    laid-joined m n t (laid n u l) l h k (rw (← e) (drop-at (flat u) (zeros (4 * (n - length u)) ++ drop (4 * n) l) (4 * length u) (length-flat u)))
+    laid-joined m n t (laid n u l) l h k (rw (← e) (drop-at (flat u) (zeros (slotWidth * (n - length u)) ++ drop (slotWidth * n) l) (slotWidth * length u) (length-flat u)))
 
 -- ---- a slot opened or closed
 
-pub inserted : (l : List ℤ) (used at : ℕ) (b : Bucket) → Filled l used → at ≤ used → 4 * suc used ≤ length l
-    → put (raised l 4 (4 * at) (4 * used)) at b ≡ laid (suc used) (take at (slots l 0 used) ++ (b ∷ drop at (slots l 0 used))) l
+pub inserted : (l : List ℤ) (used at : ℕ) (b : Bucket) → Filled l used → at ≤ used → slotWidth * suc used ≤ length l
+    → put (raised l slotWidth (slotWidth * at) (slotWidth * used)) at b ≡ laid (suc used) (take at (slots l 0 used) ++ (b ∷ drop at (slots l 0 used))) l
 unfolding flat
 inserted l used at b f h k =
     let t = slots l 0 used in
     let x = take at t in
     let y = drop at t in
-    let r = drop (4 * used) l in
+    let r = drop (slotWidth * used) l in
     let stands : l ≡ flat x ++ (flat y ++ r) = filled-parts l used x y f (sym (take-append-drop at t)) in
     let before : length x ≡ at = length-take-le at t (omega (arith, length-slots l 0 used)) in
     let behind : length y ≡ used - at = length-drop at t ∙ omega (arith, length-slots l 0 used) in
-    let front : length (flat x) ≡ 4 * at = length-flat x ∙ omega arith in
-    let first : take (4 * at) l ≡ flat x = ap (take (4 * at)) stands ∙ take-at (flat x) (flat y ++ r) (4 * at) front in
-    let last : between l (4 * at) (4 * used) ≡ flat y =
-    ap (λ (m : List ℤ). between m (4 * at) (4 * used)) stands ∙ between-at (flat x) (flat y) r (4 * at) (4 * used) front (omega (arith, length-flat y)) in
+    let front : length (flat x) ≡ slotWidth * at = length-flat x ∙ omega arith in
+    let first : take (slotWidth * at) l ≡ flat x = ap (take (slotWidth * at)) stands ∙ take-at (flat x) (flat y ++ r) (slotWidth * at) front in
+    let last : between l (slotWidth * at) (slotWidth * used) ≡ flat y =
+    ap (λ (m : List ℤ). between m (slotWidth * at) (slotWidth * used)) stands ∙ between-at (flat x) (flat y) r (slotWidth * at) (slotWidth * used) front (omega (arith, length-flat y)) in
     let more : length (x ++ (b ∷ y)) ≡ suc used = length-append x (b ∷ y) ∙ omega arith in
-    let past : 4 * suc used ≡ 4 * used + 4 = omega arith in
-    put-front l (between l (4 * at) (4 * used) ++ drop (4 * used + 4) l) at b (omega arith)
-    ∙ rw (first, last, laid-over (suc used) (x ++ (b ∷ y)) l more, flat-append x (b ∷ y), past) (sym (append-assoc (flat x) (numbers b ++ flat y) (drop (4 * used + 4) l)))
+    let past : slotWidth * suc used ≡ slotWidth * used + slotWidth = omega arith in
+    put-front l (between l (slotWidth * at) (slotWidth * used) ++ drop (slotWidth * used + slotWidth) l) at b (omega arith)
+    ∙ rw (first, last, laid-over (suc used) (x ++ (b ∷ y)) l more, flat-append x (b ∷ y), past) (sym (append-assoc (flat x) (numbers b ++ flat y) (drop (slotWidth * used + slotWidth) l)))
 
 readings-pair : (x y : Table) (a b : Bucket) → a .count + b .count ≤ readings (x ++ (a ∷ b ∷ y))
 unfolding readings
@@ -218,7 +238,7 @@ module _ (l : List ℤ) (used at : ℕ) (h : at + 1 < used) where
   pub pair-counts : slot l at .count + slot l (at + 1) .count ≤ readings (slots l 0 used)
   pair-counts = rw pair-stands (readings-pair (slots l 0 at) (slots l (at + 2) (used - (at + 2))) (slot l at) (slot l (at + 1)))
 
-  pub merged : Filled l used → lowered (put l at (union (slot l at) (slot l (at + 1)))) 4 (4 * at + 4) (4 * used) ≡ laid used (mergeAt at (slots l 0 used)) l
+  pub merged : Filled l used → lowered (put l at (union (slot l at) (slot l (at + 1)))) slotWidth (slotWidth * at + slotWidth) (slotWidth * used) ≡ laid used (mergeAt at (slots l 0 used)) l
   unfolding flat laid
   merged f =
       let x = slots l 0 at in
@@ -226,13 +246,13 @@ module _ (l : List ℤ) (used at : ℕ) (h : at + 1 < used) where
       let a = slot l at in
       let b = slot l (at + 1) in
       let u = union a b in
-      let r = drop (4 * used) l in
+      let r = drop (slotWidth * used) l in
       let behind = numbers b ++ (flat y ++ r) in
       let written : put l at u ≡ (flat x ++ numbers u) ++ behind =
       ap (λ (m : List ℤ). put m at u) (filled-parts l used x (a ∷ b ∷ y) f pair-stands) ∙ put-flat x a u behind at (length-slots l 0 at) ∙ sym (append-assoc (flat x) (numbers u) behind) in
-      let front : length (flat x ++ numbers u) ≡ 4 * at + 4 = length-append (flat x) (numbers u) ∙ omega (arith, length-flat x, length-slots l 0 at) in
-      let last : 4 * at + 4 + 4 + length (flat y) ≡ 4 * used = omega (arith, length-flat y, length-slots l (at + 2) (used - (at + 2))) in
+      let front : length (flat x ++ numbers u) ≡ slotWidth * at + slotWidth = length-append (flat x) (numbers u) ∙ omega (arith, length-flat x, length-slots l 0 at) in
+      let last : slotWidth * at + slotWidth + slotWidth + length (flat y) ≡ slotWidth * used = omega (arith, length-flat y, length-slots l (at + 2) (used - (at + 2))) in
       let table : mergeAt at (slots l 0 used) ≡ x ++ (u ∷ y) =
       ap (mergeAt at) pair-stands ∙ ap (λ (n : ℕ). mergeAt n (x ++ (a ∷ b ∷ y))) (sym (length-slots l 0 at)) ∙ merged-at x a b y in
-      let fewer : 4 * (used - length (x ++ (u ∷ y))) ≡ 4 = omega (arith, length-append x (u ∷ y), length-slots l 0 at, length-slots l (at + 2) (used - (at + 2))) in
-      rw (written, table, fewer, flat-append x (u ∷ y)) (lowered-parts (flat x ++ numbers u) (numbers b) (flat y) r 4 (4 * at + 4) (4 * used) front refl last ∙ simp append-assoc)
+      let fewer : slotWidth * (used - length (x ++ (u ∷ y))) ≡ slotWidth = omega (arith, length-append x (u ∷ y), length-slots l 0 at, length-slots l (at + 2) (used - (at + 2))) in
+      rw (written, table, fewer, flat-append x (u ∷ y)) (lowered-parts (flat x ++ numbers u) (numbers b) (flat y) r slotWidth (slotWidth * at + slotWidth) (slotWidth * used) front refl last ∙ simp append-assoc)

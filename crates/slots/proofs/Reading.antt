@@ -9,12 +9,12 @@ use lib.Dec.{T}
 use lib.IntN.{ℤ, pos, negsuc, natAbs}
 use lib.ListN.{length, getD, set}
 use lib.Seq.{sets-eq}
-use lib.Signed.{leZ, ltZ, nonNeg}
+use lib.Signed.{leZ, ltZ, nonNeg, pos-natAbs}
 use mir.Syntax.{w32, w64}
 use mir.Val.{Fits, SFits, toZ, ofZ}
 use mir.Facts.{toZ-ofZ}
 use Rattle.rule.specs.declared.Bucket.{Bucket}
-use Rattle.rule.specs.Numbers.{word}
+use Rattle.rule.specs.Numbers.{slotWidth, word}
 use Rattle.rule.specs.Room.{field, numbers, ranged, signed, slotRanged, unsigned, within}
 use Rattle.rule.proofs.Whole.{whole, one-side}
 use Rattle.slots.specs.Slots.{Filled, put}
@@ -22,12 +22,12 @@ use Rattle.rule.proofs.Ruling.{and-left, and-right}
 
 -- the ranges of a slot's four numbers
 pub record Ranges (l : List ℤ) (i : ℕ) : Type 0 where
-  pub start : unsigned (getD l (4 * i) (pos 0)) ≡ true
+  pub start : unsigned (getD l (slotWidth * i) (pos 0)) ≡ true
   pub count : unsigned (field l i 1) ≡ true
   pub least : signed (field l i 2) ≡ true
   pub largest : signed (field l i 3) ≡ true
 
-field-first : (l : List ℤ) (i : ℕ) → field l i 0 ≡ getD l (4 * i) (pos 0)
+field-first : (l : List ℤ) (i : ℕ) → field l i 0 ≡ getD l (slotWidth * i) (pos 0)
 field-first l i = rw add-zero
 
 pub ranges : (l : List ℤ) (i : ℕ) → slotRanged l i ≡ true → Ranges l i
@@ -50,7 +50,7 @@ slot-in l i (suc n) (suc k) h e =
     rw next (slot-in l (suc i) n k (omega arith) (and-right (slotRanged l i) (ranged l (suc i) n) e))
 
 -- what reading one of the filled slots asks
-pub filled : {l : List ℤ} {n : ℕ} → Filled l n → (i : ℕ) → i < n → (4 * suc i ≤ length l) × (slotRanged l i ≡ true)
+pub filled : {l : List ℤ} {n : ℕ} → Filled l n → (i : ℕ) → i < n → (slotWidth * suc i ≤ length l) × (slotRanged l i ≡ true)
 filled {l} {n} f i h = (omega (arith, f .there), rw zero-add at (slot-in l 0 n i h (f .ranges)))
 
 -- an unsigned number read from 64 bits is itself, and may be cast to 32
@@ -62,20 +62,23 @@ unsigned-held z e =
     let fits : SFits w64 z = omega (whole, one-side z) in
     toZ-ofZ fits
 
-unsigned-fits : (z : ℤ) → unsigned z ≡ true → T (nonNeg z) × Fits w32 (natAbs z)
+pub unsigned-fits : (z : ℤ) → unsigned z ≡ true → T (nonNeg z) × Fits w32 (natAbs z)
 unfolding within
 unsigned-fits (pos n) e = (tt, omega (whole, and-right (leZ (pos 0) (pos n)) (ltZ (pos n) (pos word)) e))
 unsigned-fits (negsuc n) e = absurd (false≢true e)
 
+pub unsigned-pos : (z : ℤ) → unsigned z ≡ true → pos (natAbs z) ≡ z
+unsigned-pos z e = pos-natAbs z (unsigned-fits z e .0)
+
 pub unsigned-casts : (z : ℤ) → unsigned z ≡ true → T (nonNeg (toZ w64 (ofZ w64 z))) × Fits w32 (natAbs (toZ w64 (ofZ w64 z)))
 unsigned-casts z e = rw (unsigned-held z e) (unsigned-fits z e)
 
-pub stored : (l : List ℤ) (i : ℕ) (b : Bucket) → 4 * suc i ≤ length l
-    → set (set (set (set l (4 * i) (pos (b .start))) (4 * i + 1) (pos (b .count))) (4 * i + 2) (b .least)) (4 * i + 3) (b .largest) ≡ put l i b
+pub stored : (l : List ℤ) (i : ℕ) (b : Bucket) → slotWidth * suc i ≤ length l
+    → set (set (set (set l (slotWidth * i) (pos (b .start))) (slotWidth * i + 1) (pos (b .count))) (slotWidth * i + 2) (b .least)) (slotWidth * i + 3) (b .largest) ≡ put l i b
 unfolding put
 stored l i b h =
-    let one : 4 * i + 1 ≡ suc (4 * i) = omega arith in
-    let two : 4 * i + 2 ≡ suc (suc (4 * i)) = omega arith in
-    let three : 4 * i + 3 ≡ suc (suc (suc (4 * i))) = omega arith in
-    let four : 4 * i + 4 ≡ 4 * suc i = omega arith in
-    rw (one, two, three) (sets-eq (numbers b) l (4 * i) (omega arith) ∙ rw (append-assoc, four))
+    let one : slotWidth * i + 1 ≡ suc (slotWidth * i) = omega arith in
+    let two : slotWidth * i + 2 ≡ suc (suc (slotWidth * i)) = omega arith in
+    let three : slotWidth * i + 3 ≡ suc (suc (suc (slotWidth * i))) = omega arith in
+    let four : slotWidth * i + 4 ≡ slotWidth * suc i = omega arith in
+    rw (one, two, three) (sets-eq (numbers b) l (slotWidth * i) (omega arith) ∙ rw (append-assoc, four))

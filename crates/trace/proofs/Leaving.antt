@@ -16,7 +16,7 @@ use Rattle.rule.specs.declared.Refusal.{Refusal}
 use Rattle.rule.specs.declared.Settings.{Settings}
 use Rattle.rule.specs.declared.State.{State}
 use Rattle.rule.specs.Calls.{Verdict, accepted, admitted, isHeld, kept, late, lateOutcome, lateVerdict, nextOutcome, nextVerdict, opened, refuse, refused, stateOf, traced}
-use Rattle.rule.specs.Numbers.{ticks, word}
+use Rattle.rule.specs.Numbers.{slotWidth, ticks, word}
 use Rattle.rule.specs.Room.{gapsGood, laid, ranged, roomy, runsAllowed, slots, sound, stepsGood, tableOf}
 use Rattle.rule.specs.Table.{Table, accept, holding, needed, nextTick, readings, runs}
 use Rattle.rule.proofs.Ruling.{Ruled}
@@ -60,7 +60,7 @@ past-admission s l v f =
 empty-leaves : (s : Settings) (l : List ℤ) → stepsGood s ≡ true → gapsGood (s .kind) (s .gaps) ≡ true → roomy s l ≡ true → Leaves s l (accepted [])
 unfolding traced LeftBy roomy ranged slots runs readings Ruled
 empty-leaves s l a b c =
-    let long = leb-true (4 * needed s) (length l) c in
+    let long = leb-true (slotWidth * needed s) (length l) c in
     facts-sound (stateOf s []) (laid (needed s) [] l)
     (record {
       steps-good = a;

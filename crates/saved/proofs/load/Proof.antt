@@ -5,6 +5,7 @@ use Prim.Native.Nat.{_/_, _≤_}
 use mathlib.Core.Path.{_≡_, sym, _∙_}
 use lib.ListN.{length}
 use Rattle.rule.specs.declared.Settings.{Settings}
+use Rattle.rule.specs.Numbers.{recordWidth}
 use Rattle.rule.specs.Bytes.{recordsOf}
 use Rattle.rule.specs.Calls.{kept, traced}
 use Rattle.rule.specs.Room.{laid}
@@ -36,7 +37,7 @@ loads c =
     inspect-counts (kept (a .named)) (a .file .now) (c .c .given .0 .0) (rw (c .before .before .before .before .before .before .before .before .kept .ensures) at (sym (c .before .before .inspect .ensures) ∙ c .c .given .1))
 
 -- there is a slot for each record
-few : (c : tie.After-c) → length (c .before .before .before .before .before .before .before .before .before .before .args .file .now) / 16 ≤ c .before .before .before .before .needed .given .0 .0
+few : (c : tie.After-c) → length (c .before .before .before .before .before .before .before .before .before .before .args .file .now) / recordWidth ≤ c .before .before .before .before .needed .given .0 .0
 few c =
     let a = c .before .before .before .before .before .before .before .before .before .before .args in
     omega (arith, loads-needed (kept (a .named)) (a .file .now) (loads c .0), length-file (a .file .now), granted (c .before .before .before .before) .1)
@@ -75,7 +76,7 @@ clear-requires : tie.Need-clear-requires
 clear-requires c κs =
     let a = c .before .before .before .before .before .before .before .before .before .before .before .before .before .before .before .args in
     let g = granted (c .before .before .before .before .before .before .before .before .before) in
-    let same = loaded-length (a .file .now) (a .room .now) (length (a .file .now) / 16) (c .before .before .load-slots .last .1 .1 .0) (omega (arith, few (c .before .before .before .before .before), g .1, g .0 .long)) (c .before .before .load-slots .ensures) in
+    let same = loaded-length (a .file .now) (a .room .now) (length (a .file .now) / recordWidth) (c .before .before .load-slots .last .1 .1 .0) (omega (arith, few (c .before .before .before .before .before), g .1, g .0 .long)) (c .before .before .load-slots .ensures) in
     (omega (arith, few (c .before .before .before .before .before)), omega (arith, same, g .1, g .0 .long))
 
 same-length : tie.Need-same-length
@@ -110,7 +111,7 @@ returns-3 c =
     let h = loads (c .before .before .before .before .before .before .before) in
     let g = granted (c .before .before .before .before .before .before .before .before .before .before .before) in
     let room : c .before .clear .last .0 ≡ laid (needed s) (recordsOf (a .file .now)) (a .room .now) =
-    rw (c .before .clear .ensures, c .before .before .before .before .load-slots .ensures) (rw (g .1) (cleared (a .file .now) (a .room .now) (length (a .file .now) / 16) (needed s) (omega (arith, few (c .before .before .before .before .before .before .before), g .1)))) in
+    rw (c .before .clear .ensures, c .before .before .before .before .load-slots .ensures) (rw (g .1) (cleared (a .file .now) (a .room .now) (length (a .file .now) / recordWidth) (needed s) (omega (arith, few (c .before .before .before .before .before .before .before), g .1)))) in
     rw (admits s (a .room .now) (g .0) (fileVerdict s (a .file .now)), file-loads s (a .file .now) (h .0))
     (λ i. (Accepted (record { state = record { settings = c .before .before .before .before .before .before .before .before .before .before .before .before .before .before .before .kept .ensures i; used = sym (length-file (a .file .now)) i; runs = h .1 .0 i; readings = h .1 .1 i } }), room i))
 

@@ -6,6 +6,7 @@ use Prim.Native.Nat.{_*_}
 use mathlib.Core.Path.{_≡_, sym}
 use mathlib.Core.Bool.{true}
 use lib.ListN.{length}
+use Rattle.rule.specs.Numbers.{recordWidth}
 use Rattle.rule.specs.Calls.{refuse, writeVerdict, wrote}
 use Rattle.rule.specs.Room.{sound}
 use Rattle.room.proofs.Sounding.{sound-facts, sound-filled, used-needed}
@@ -35,7 +36,7 @@ returns-2 : tie.Need-returns-2
 unfolding writeVerdict refuse wrote
 returns-2 c =
     let a = c .before .before .before .before .before .before .args in
-    rw (whole (c .before .before), lt-ltb (length (a .out .now)) (16 * a .trace .state .used) (c .if2 .taken))
+    rw (whole (c .before .before), lt-ltb (length (a .out .now)) (recordWidth * a .trace .state .used) (c .if2 .taken))
 
 save-slots-requires : tie.Need-save-slots-requires
 save-slots-requires c κs =

@@ -21,7 +21,7 @@ use Rattle.demands.specs.History.{Held, Merge, Reading, Settles, accepte
 use Rattle.demands.specs.Served.{Extremes, Inside, Near, Served, Shown}
 use Rattle.demands.proofs.Borders.{from, from-all, one-value}
 use Rattle.demands.proofs.Coverage.{times, times-arrived, times-member}
-use Rattle.demands.proofs.Kept.{Joined, Kept, kept-extremes, merge-kept, reading-kept}
+use Rattle.demands.proofs.Invariant.{Joined, Invariant, pair-extremes, merge-invariant, reading-invariant}
 use Rattle.demands.proofs.Pairs.{Flat, flat-pair, pairs, pairs-enough}
 
 -- ---- a curve and a distance that all readings keep
@@ -46,14 +46,14 @@ pairs-many InOrder base steps t j few over = omega (arith, pairs-enough t)
 pairs-many Late base steps t j few over = omega (arith, pairs-enough t)
 
 module _ (kind : Kind) (base : ℕ) (c : Curve) (E : ℕ) (few : 2 * steps c ≤ base + 1) where
-  merge-narrow : {rs : List Reading} {t u : Table} → Near E c rs → limitOver kind base (runs t) < length t → Merge t u → Kept kind rs t → Narrow E t → Narrow E u
-  merge-narrow {rs} {t} {u} near over m kept narrow b member =
+  merge-narrow : {rs : List Reading} {t u : Table} → Near E c rs → limitOver kind base (runs t) < length t → Merge t u → Invariant kind rs t → Narrow E t → Narrow E u
+  merge-narrow {rs} {t} {u} near over m invariant narrow b member =
       ⊎-elim (λ e. subst (λ (x : Bucket). spread x ≤ 2 * E) (sym e) merged) (λ k. narrow b (subst (List·Memᴰ b) (sym (m .stands)) k))
       (merged-member (m .first) (m .second) (m .touching) b (m .left) (m .right) (subst (List·Memᴰ b) (m .leaves) member))
     where
       flat : Flat (c .borders) t
       flat =
-          flat-pair (c .borders) 0 t (kept .ordered) (omega (arith, from-all 0 (c .borders), pairs-many kind base (steps c) t (kept .joined) few over))
+          flat-pair (c .borders) 0 t (invariant .ordered) (omega (arith, from-all 0 (c .borders), pairs-many kind base (steps c) t (invariant .joined) few over))
 
       first : Bucket
       first = flat .these .first
@@ -64,7 +64,7 @@ module _ (kind : Kind) (base : ℕ) (c : Curve) (E : ℕ) (few : 2 * steps c ≤
       cheap : spread (union first second) ≤ 2 * E
       cheap =
           flat-spread c E rs (union first second) near
-          (kept-extremes (flat .these .left) first second (flat .these .right) (flat .these .touching) (subst (Kept kind rs) (flat .these .stands) kept))
+          (pair-extremes (flat .these .left) first second (flat .these .right) (flat .these .touching) (subst (Invariant kind rs) (flat .these .stands) invariant))
           (subst (λ (e : ℕ). from (suc (first .start)) (c .borders) ≤ from e (c .borders)) (sym (union-end first second (flat .these .touching))) (flat .none))
 
       merged : spread (union (m .first) (m .second)) ≤ 2 * E
@@ -92,16 +92,16 @@ settled-size : {kind : Kind} {base : ℕ} {t v : Table} {n : ℕ} → Settles ki
 settled-size (rests h) = h
 settled-size (merges h m s) = settled-size s
 
-pub held-kept : {kind : Kind} {base : ℕ} {rs : List Reading} {t : Table} {m : ℕ} → Held kind base rs t m → Kept kind rs t
+pub held-invariant : {kind : Kind} {base : ℕ} {rs : List Reading} {t : Table} {m : ℕ} → Held kind base rs t m → Invariant kind rs t
 unfolding Joined Ordered holders readings times runs beginning
-held-kept {kind} opened =
+held-invariant {kind} opened =
     record { ordered = tt; covers = λ tick. refl; each = refl; extremes = λ b m. absurd (List·Memᴰ·not-nil m); true-runs = refl; joined = none kind }
   where
     none : (kind : Kind) → Joined kind 0
     none InOrder = omega arith
     none Late = tt
-held-kept {kind} (accepted {rs = rs} {t = t} r h takes s) =
-    settled (Kept kind (r ∷ rs)) (λ t u over m k. merge-kept m k) s (reading-kept kind rs t (held-kept h) r takes)
+held-invariant {kind} (accepted {rs = rs} {t = t} r h takes s) =
+    settled (Invariant kind (r ∷ rs)) (λ t u over m k. merge-invariant m k) s (reading-invariant kind rs t (held-invariant h) r takes)
 
 held-length : {kind : Kind} {base : ℕ} {rs : List Reading} {t : Table} {m : ℕ} → Held kind base rs t m → m + length t ≡ length rs
 held-length opened = omega arith
@@ -114,8 +114,8 @@ held-size (accepted r h takes s) = settled-size s
 held-narrow : {kind : Kind} {base : ℕ} {rs : List Reading} {t : Table} {m : ℕ} (c : Curve) (E : ℕ) → 2 * steps c ≤ base + 1 → Near E c rs → Held kind base rs t m → Narrow E t
 held-narrow c E few near opened = λ b m. absurd (List·Memᴰ·not-nil m)
 held-narrow {kind} {base} c E few near (accepted {rs = rs} {t = t} r h takes s) =
-    settled (λ u. Kept kind (r ∷ rs) u × Narrow E u) (λ t u over m k. (merge-kept m (k .0), merge-narrow kind base c E few near over m (k .0) (k .1))) s
-    (reading-kept kind rs t (held-kept h) r takes, reading-narrow E r t (held-narrow c E few (λ q m. near q (List·Memᴰ·tail m)) h)) .1
+    settled (λ u. Invariant kind (r ∷ rs) u × Narrow E u) (λ t u over m k. (merge-invariant m (k .0), merge-narrow kind base c E few near over m (k .0) (k .1))) s
+    (reading-invariant kind rs t (held-invariant h) r takes, reading-narrow E r t (held-narrow c E few (λ q m. near q (List·Memᴰ·tail m)) h)) .1
 
 -- ---- the picture
 
@@ -127,26 +127,26 @@ unfolding worst
 worst-within E [] all = omega arith
 worst-within E (b ∷ t) all = omega (arith, all b (List·Memᴰ·head refl), worst-within E t (λ x m. all x (List·Memᴰ·tail m)))
 
-shown : {kind : Kind} {rs : List Reading} {t : Table} (E : ℕ) → Kept kind rs t → Narrow E t → Shown E t rs
-shown {kind} {rs} {t} E kept narrow r m =
-    let held = held-by (r .tick) t (omega (arith, kept .covers (r .tick), times-member m)) in
-    let x = kept .extremes (held .0) (held .2) in
+shown : {kind : Kind} {rs : List Reading} {t : Table} (E : ℕ) → Invariant kind rs t → Narrow E t → Shown E t rs
+shown {kind} {rs} {t} E invariant narrow r m =
+    let held = held-by (r .tick) t (omega (arith, invariant .covers (r .tick), times-member m)) in
+    let x = invariant .extremes (held .0) (held .2) in
     let bounds = x .bounds r m (held .3) in
     (held .0, held .1, within-level (held .0) (least-largest rs (held .0) x) E (r .value) (bounds .0) (bounds .1) (narrow (held .0) (held .2)))
 
 pub served : (kind : Kind) (base : ℕ) (rs : List Reading) (t : Table) (m : ℕ) → 1 ≤ base → Held kind base rs t m → Served kind base rs t m
 served kind base rs t m positive h =
-    let kept : Kept kind rs t = held-kept h in
+    let invariant : Invariant kind rs t = held-invariant h in
     record {
       picture = λ c E few near.
           let narrow : Narrow E t = held-narrow c E (omega arith) near h in
-          (shown E kept narrow, worst-within E t (λ b k. error-within b (least-largest rs b (kept .extremes b k)) E (narrow b k)));
+          (shown E invariant narrow, worst-within E t (λ b k. error-within b (least-largest rs b (invariant .extremes b k)) E (narrow b k)));
       covers = λ tick.
-          kept .covers tick ∙ times-arrived tick rs (omega (arith, kept .covers tick, held-once 0 tick t (kept .ordered)));
-      each = kept .each;
-      ordered = kept .ordered;
-      extremes = kept .extremes;
+          invariant .covers tick ∙ times-arrived tick rs (omega (arith, invariant .covers tick, held-once 0 tick t (invariant .ordered)));
+      each = invariant .each;
+      ordered = invariant .ordered;
+      extremes = invariant .extremes;
       size = held-size h;
-      true-runs = kept .true-runs;
+      true-runs = invariant .true-runs;
       merged = held-length h;
     }

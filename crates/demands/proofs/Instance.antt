@@ -16,8 +16,8 @@ use Rattle.rule.proofs.Merging.{Enough, merge-length, merge-runs, settle-merges
 use Rattle.demands.specs.Curve.{Curve, steps}
 use Rattle.demands.specs.History.{Accepted, Held, Merge, Reading, Settles, accepted, merges, opened, rests, tableAfter}
 use Rattle.demands.specs.Served.{Near, Served, Shown}
-use Rattle.demands.proofs.Demand3.{held-kept, served}
-use Rattle.demands.proofs.Kept.{Joined, reading-kept}
+use Rattle.demands.proofs.Demand3.{held-invariant, served}
+use Rattle.demands.proofs.Invariant.{Joined, reading-invariant}
 
 merge-is : (t : Table) → runs t < length t → Merge t (merge t)
 merge-is t h =
@@ -65,8 +65,8 @@ instance-held s [] few a = (0, opened)
 instance-held s (r ∷ rs) few a =
     let before = instance-held s rs few (a .1) in
     let table : Table = insert (single (r .tick) (r .value)) (tableAfter s rs) in
-    let kept = reading-kept (s .kind) rs (tableAfter s rs) (held-kept (before .1)) r (a .0) in
-    let after = settles-in (length table) s table (omega arith) (enough-runs (s .kind) (2 * s .steps) (runs table) (omega arith) (kept .joined)) in
+    let invariant = reading-invariant (s .kind) rs (tableAfter s rs) (held-invariant (before .1)) r (a .0) in
+    let after = settles-in (length table) s table (omega arith) (enough-runs (s .kind) (2 * s .steps) (runs table) (omega arith) (invariant .joined)) in
     (after .0 + before .0, accepted r (before .1) (a .0) (after .1))
 
 pub demand3 : (s : Settings) (rs : List Reading) → 1 ≤ s .steps → Accepted s rs → (m : ℕ) × Served (s .kind) (2 * s .steps) rs (tableAfter s rs) m

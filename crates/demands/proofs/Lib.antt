@@ -2,6 +2,6 @@
 pub mod Borders
 pub mod Pairs
 pub mod Coverage
-pub mod Kept
+pub mod Invariant
 pub mod Demand3
 pub mod Instance

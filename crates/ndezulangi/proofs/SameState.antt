@@ -6,14 +6,14 @@ use Rattle.rule.specs.declared.Kind.{Kind}
 use Rattle.rule.specs.declared.Kind.the-variants.{InOrder, Late}
 use Rattle.rule.specs.declared.State.{State}
 use Rattle.ndezulangi.specs.declared.Fields.{Fields}
-use Rattle.ndezulangi.specs.Plain.{fieldsOf, kindOf, numberOf, stateOf}
+use Rattle.ndezulangi.specs.Plain.{fieldsOf, kindOf, numberOf, stateFrom}
 
 same-kind : (k : Kind) → kindOf (numberOf k) ≡ k
 unfolding kindOf numberOf
 same-kind InOrder = refl
 same-kind Late = refl
 
-pub same-state : (s : State) → stateOf (fieldsOf s) ≡ s
+pub same-state : (s : State) → stateFrom (fieldsOf s) ≡ s
 same-state s = λ i. record {
   settings = record { kind = same-kind (s .settings .kind) i; steps = s .settings .steps; gaps = s .settings .gaps };
   used = s .used;
@@ -26,5 +26,5 @@ unfolding kindOf numberOf
 same-number zero h = refl
 same-number (suc n) h = omega arith
 
-pub same-fields : (f : Fields) → f .kind ≤ 1 → fieldsOf (stateOf f) ≡ f
+pub same-fields : (f : Fields) → f .kind ≤ 1 → fieldsOf (stateFrom f) ≡ f
 same-fields f h = λ i. record { kind = same-number (f .kind) h i; steps = f .steps; gaps = f .gaps; used = f .used; runs = f .runs; readings = f .readings }

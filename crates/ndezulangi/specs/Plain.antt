@@ -30,8 +30,8 @@ numberOf Late = 1
 abbrev pub settingsOf : ℕ → ℕ → ℕ → Settings
 settingsOf kind steps gaps = record { kind = kindOf kind; steps = steps; gaps = gaps }
 
-abbrev pub stateOf : Fields → State
-stateOf f = record { settings = settingsOf (f .kind) (f .steps) (f .gaps); used = f .used; runs = f .runs; readings = f .readings }
+abbrev pub stateFrom : Fields → State
+stateFrom f = record { settings = settingsOf (f .kind) (f .steps) (f .gaps); used = f .used; runs = f .runs; readings = f .readings }
 
 abbrev pub fieldsOf : State → Fields
 fieldsOf s = record { kind = numberOf (s .settings .kind); steps = s .settings .steps; gaps = s .settings .gaps; used = s .used; runs = s .runs; readings = s .readings }
@@ -69,19 +69,19 @@ abbrev pub openReply : ℕ → ℕ → ℕ → List ℤ → Reply × List ℤ
 openReply kind steps gaps room = replied none (answered (opened (settingsOf kind steps gaps) room))
 
 abbrev pub nextReply : Fields → List ℤ → ℤ → Reply × List ℤ
-nextReply state room value = replied state (answered (nextOutcome (stateOf state) room value))
+nextReply state room value = replied state (answered (nextOutcome (stateFrom state) room value))
 
 abbrev pub lateReply : Fields → List ℤ → ℕ → ℤ → Reply × List ℤ
-lateReply state room tick value = replied state (answered (lateOutcome (stateOf state) room tick value))
+lateReply state room tick value = replied state (answered (lateOutcome (stateFrom state) room tick value))
 
 abbrev pub lookupReply : Fields → List ℤ → ℕ → Shown
-lookupReply state room tick = showing (lookupOutcome (stateOf state) room tick)
+lookupReply state room tick = showing (lookupOutcome (stateFrom state) room tick)
 
 abbrev pub rowReply : Fields → List ℤ → List ℤ → Counted × List ℤ
-rowReply state room out = told (numbersOutcome (stateOf state) room out)
+rowReply state room out = told (numbersOutcome (stateFrom state) room out)
 
 abbrev pub saveReply : Fields → List ℤ → List ℕ → Counted × List ℕ
-saveReply state room out = told (saveOutcome (stateOf state) room out)
+saveReply state room out = told (saveOutcome (stateFrom state) room out)
 
 abbrev pub loadReply : ℕ → ℕ → ℕ → List ℕ → List ℤ → Reply × List ℤ
 loadReply kind steps gaps file room = replied none (answered (loaded (settingsOf kind steps gaps) file room))

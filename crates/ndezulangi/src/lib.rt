@@ -1,7 +1,7 @@
 // The calls for other languages: plain C functions over lent numbers and bytes, the state as plain fields. include/ndezulangi.h is their manual.
 // Each hands on to the call of its name and does nothing of its own.
 ghost use mathlib.Core.Path.{_≡_};
-ghost use Rattle.ndezulangi.specs.Plain.{fieldsOf, kindOf, lateReply, loadReply, lookupReply, nextReply, none, numberOf, openReply, replying, rowReply, saveReply, settingsOf, showing, stateOf, telling};
+ghost use Rattle.ndezulangi.specs.Plain.{fieldsOf, kindOf, lateReply, loadReply, lookupReply, nextReply, none, numberOf, openReply, replying, rowReply, saveReply, settingsOf, showing, stateFrom, telling};
 use rule::Found;
 use rule::Kind;
 use rule::Refusal;
@@ -76,7 +76,7 @@ fn settings_of(kind: usize, steps: usize, gaps: usize) -> Settings
 }
 
 fn trace_of(f: Fields) -> Trace
-    ensures { λ r. ⌜ r .state ≡ stateOf f ⌝ }
+    ensures { λ r. ⌜ r .state ≡ stateFrom f ⌝ }
 {
     let settings = settings_of(f.kind, f.steps, f.gaps);
     Trace {

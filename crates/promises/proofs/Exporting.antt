@@ -36,14 +36,14 @@ use Rattle.demands.specs.History.{Reading, arrived}
 use Rattle.ndezulangi.specs.declared.Counted.{Counted}
 use Rattle.ndezulangi.specs.declared.Fields.{Fields}
 use Rattle.ndezulangi.specs.declared.Reply.{Reply}
-use Rattle.ndezulangi.specs.Plain.{fieldsOf, kindOf, lookupReply, none, numberOf, replied, replying, settingsOf, showing, stateOf, telling, told}
+use Rattle.ndezulangi.specs.Plain.{fieldsOf, kindOf, lookupReply, none, numberOf, replied, replying, settingsOf, showing, stateFrom, telling, told}
 use Rattle.ndezulangi.proofs.SameState.{same-state}
 use Rattle.promises.specs.Answered.{Answered, Row, fileRows, firstOf, lateRows, lookupRows, nextRows, openRows, said, saidFound, saidWritten, writeRows}
 use Rattle.promises.specs.Reached.{Reached}
 use Rattle.promises.specs.Exported.{Called, Counts, ExportedDemand1, ExportedDemand2, Promised, Replies, Shows, firstDue, wroteAll}
 use Rattle.promises.proofs.Answering.{demand1}
 use Rattle.promises.proofs.Keeping.{held-small, keeps, kept-twice, loaded-kept}
-use Rattle.promises.proofs.Outcomes.{next-taken, traced-accepted}
+use Rattle.promises.proofs.Outcomes.{next-in-order}
 
 -- ---- demand 1
 
@@ -81,11 +81,11 @@ pub exported-demand1 : ExportedDemand1
 unfolding sound clauses allOf stepsGood nextVerdict lateVerdict lookupOutcome foundOf writeVerdict refuse traced wrote answer replying showing telling
 exported-demand1 = record {
   opens = λ kind steps gaps l. let g = settingsOf kind steps gaps in replies none (opened g l .0) (openRows g l) l (opened g l .1) (demand1 .opens g l);
-  nexts = λ f l v. let s = stateOf f in replies f (nextOutcome s l v .0) (nextRows s l) l (nextOutcome s l v .1) (demand1 .nexts s l v);
-  lates = λ f l tick v. let s = stateOf f in replies f (lateOutcome s l tick v .0) (lateRows s l tick v) l (lateOutcome s l tick v .1) (demand1 .lates s l tick v);
-  lookups = λ f l tick. let s = stateOf f in shows-found (lookupOutcome s l tick) (lookupRows s l tick) (demand1 .lookups s l tick);
-  rows = λ f l out. let s = stateOf f in counts (numbersOutcome s l out .0) (writeRows s l (length out) (slotWidth * f .used)) out (numbersOutcome s l out .1) (demand1 .numbers s l out);
-  saves = λ f l out. let s = stateOf f in counts (saveOutcome s l out .0) (writeRows s l (length out) (recordWidth * f .used)) out (saveOutcome s l out .1) (demand1 .saves s l out);
+  nexts = λ f l v. let s = stateFrom f in replies f (nextOutcome s l v .0) (nextRows s l) l (nextOutcome s l v .1) (demand1 .nexts s l v);
+  lates = λ f l tick v. let s = stateFrom f in replies f (lateOutcome s l tick v .0) (lateRows s l tick v) l (lateOutcome s l tick v .1) (demand1 .lates s l tick v);
+  lookups = λ f l tick. let s = stateFrom f in shows-found (lookupOutcome s l tick) (lookupRows s l tick) (demand1 .lookups s l tick);
+  rows = λ f l out. let s = stateFrom f in counts (numbersOutcome s l out .0) (writeRows s l (length out) (slotWidth * f .used)) out (numbersOutcome s l out .1) (demand1 .numbers s l out);
+  saves = λ f l out. let s = stateFrom f in counts (saveOutcome s l out .0) (writeRows s l (length out) (recordWidth * f .used)) out (saveOutcome s l out .1) (demand1 .saves s l out);
   loads = λ kind steps gaps file l. let g = settingsOf kind steps gaps in replies none (loaded g file l .0) (openRows g l ++ fileRows g file) l (loaded g file l .1) (demand1 .loads g file l);
   places = λ kind steps gaps file l e. let g = settingsOf kind steps gaps in demand1 .places g file l (replying none (answer (loaded g file l .0)) .place) (eight none (loaded g file l .0) e);
   unsound = λ l. refl;
@@ -113,15 +113,15 @@ numbered Line = omega arith
 module _ (back : Fields) where
   -- refusal 0: the call was accepted, and the reply's state is the call's
   record Accepts (o : Verdict State × List ℤ) (r : Reply) (m : List ℤ) : Type 0 where
-    outcome : o ≡ (accepted (stateOf (r .state)), m)
-    plain : fieldsOf (stateOf (r .state)) ≡ r .state
+    outcome : o ≡ (accepted (stateFrom (r .state)), m)
+    plain : fieldsOf (stateFrom (r .state)) ≡ r .state
 
   accepts : (o : Verdict State × List ℤ) {r : Reply} {m : List ℤ} → replied back (answered o) ≡ (r, m) → r .refusal ≡ 0 → Accepts o r m
   unfolding replying answer
   accepts (refused q, l) e z = absurd (omega (arith, numbered q, ap (λ (x : Reply × List ℤ). x .0 .refusal) e))
   accepts (accepted s, l) e z = record {
-    outcome = ap (λ (x : State). (accepted x, l)) (sym (same-state s)) ∙ ap (λ (x : Reply × List ℤ). (accepted (stateOf (x .0 .state)), x .1)) e;
-    plain = subst (λ (x : Reply × List ℤ). fieldsOf (stateOf (x .0 .state)) ≡ x .0 .state) e (ap fieldsOf (same-state s));
+    outcome = ap (λ (x : State). (accepted x, l)) (sym (same-state s)) ∙ ap (λ (x : Reply × List ℤ). (accepted (stateFrom (x .0 .state)), x .1)) e;
+    plain = subst (λ (x : Reply × List ℤ). fieldsOf (stateFrom (x .0 .state)) ≡ x .0 .state) e (ap fieldsOf (same-state s));
   }
 
   -- another: it was refused, and the state is the one handed back
@@ -145,33 +145,32 @@ writes (Written.Buckets n, l) e z = ap (λ (x : Counted × List ℕ). (Written.B
 
 module _ {kind steps gaps : ℕ} where
   -- with the state that the caller has, which is one of the fields' own
-  reaches : {rs : List Reading} {f : Fields} {l : List ℤ} → Called kind steps gaps rs f l → Reached (settingsOf kind steps gaps) rs (stateOf f) l × (fieldsOf (stateOf f) ≡ f)
+  reaches : {rs : List Reading} {f : Fields} {l : List ℤ} → Called kind steps gaps rs f l → Reached (settingsOf kind steps gaps) rs (stateFrom f) l × (fieldsOf (stateFrom f) ≡ f)
   reaches (Called.opens l e z) =
       let a = accepts none (opened (settingsOf kind steps gaps) l) e z in
       (Reached.opens l (a .outcome), a .plain)
   reaches (Called.nexts {rs = rs} {f = f} {l = l} {m = m} {r = r} v range c e z) =
-      let s : State = stateOf f in
+      let s : State = stateFrom f in
       let a = accepts f (nextOutcome s l v) e z in
-      let w = traced-accepted (s .settings) l (nextVerdict s l v) (stateOf (r .state)) m (a .outcome) in
       let k = keeps (reaches c .0) in
-      let in-order : late (kindOf kind) ≡ false = sym (ap (λ (x : Settings). late (x .kind)) (k .named)) ∙ next-taken s l v (w .table) (w .verdict) .kind in
-      (subst (λ (tick : ℕ). Reached (settingsOf kind steps gaps) (record { tick = tick; value = v } ∷ rs) (stateOf (r .state)) m) (k .next in-order) (Reached.nexts v range (reaches c .0) (a .outcome)), a .plain)
+      let in-order : late (kindOf kind) ≡ false = sym (ap (λ (x : Settings). late (x .kind)) (k .named)) ∙ next-in-order s l v (a .outcome) in
+      (subst (λ (tick : ℕ). Reached (settingsOf kind steps gaps) (record { tick = tick; value = v } ∷ rs) (stateFrom (r .state)) m) (k .next in-order) (Reached.nexts v range (reaches c .0) (a .outcome)), a .plain)
   reaches (Called.lates {f = f} {l = l} tick v range c e z) =
-      let a = accepts f (lateOutcome (stateOf f) l tick v) e z in
+      let a = accepts f (lateOutcome (stateFrom f) l tick v) e z in
       (Reached.lates tick v range (reaches c .0) (a .outcome), a .plain)
   reaches (Called.next-refused {rs = rs} {f = f} {l = l} {m = m} v c e n) =
-      let a = refuses f (nextOutcome (stateOf f) l v) e n in
-      subst (λ (x : Fields). Reached (settingsOf kind steps gaps) rs (stateOf x) m × (fieldsOf (stateOf x) ≡ x)) (sym (a .state)) (Reached.next-refused v (reaches c .0) (a .outcome), reaches c .1)
+      let a = refuses f (nextOutcome (stateFrom f) l v) e n in
+      subst (λ (x : Fields). Reached (settingsOf kind steps gaps) rs (stateFrom x) m × (fieldsOf (stateFrom x) ≡ x)) (sym (a .state)) (Reached.next-refused v (reaches c .0) (a .outcome), reaches c .1)
   reaches (Called.late-refused {rs = rs} {f = f} {l = l} {m = m} tick v c e n) =
-      let a = refuses f (lateOutcome (stateOf f) l tick v) e n in
-      subst (λ (x : Fields). Reached (settingsOf kind steps gaps) rs (stateOf x) m × (fieldsOf (stateOf x) ≡ x)) (sym (a .state)) (Reached.late-refused tick v (reaches c .0) (a .outcome), reaches c .1)
+      let a = refuses f (lateOutcome (stateFrom f) l tick v) e n in
+      subst (λ (x : Fields). Reached (settingsOf kind steps gaps) rs (stateFrom x) m × (fieldsOf (stateFrom x) ≡ x)) (sym (a .state)) (Reached.late-refused tick v (reaches c .0) (a .outcome), reaches c .1)
   reaches (Called.open-refused {l = l} k b g c e n) =
       (Reached.open-refused (settingsOf k b g) (reaches c .0) (refuses none (opened (settingsOf k b g) l) e n .outcome), reaches c .1)
   reaches (Called.load-refused {l = l} k b g file c e n) =
       (Reached.load-refused (settingsOf k b g) file (reaches c .0) (refuses none (loaded (settingsOf k b g) file l) e n .outcome), reaches c .1)
   reaches (Called.loads {f = f} {l = l} {c = q} {written = written} out room k b g same c saves z e y) =
       let a = accepts none (loaded (settingsOf k b g) (take (recordWidth * q .buckets) written) room) e y in
-      (Reached.loads out room (settingsOf k b g) same (reaches c .0) (writes (saveOutcome (stateOf f) l out) saves z) (a .outcome), a .plain)
+      (Reached.loads out room (settingsOf k b g) same (reaches c .0) (writes (saveOutcome (stateFrom f) l out) saves z) (a .outcome), a .plain)
 
 -- ---- what ndz_lookup shows of it
 
@@ -181,14 +180,14 @@ unfolding showing found holding worst
 found-error tick [] = omega arith
 found-error tick (b ∷ t) = by-test (holds tick b) (λ h. rw h (omega arith)) (λ h. rw h (omega (arith, found-error tick t)))
 
-shown-error : (f : Fields) (l : List ℤ) (tick : ℕ) → lookupReply f l tick .error ≤ worst (tableOf (stateOf f) l)
+shown-error : (f : Fields) (l : List ℤ) (tick : ℕ) → lookupReply f l tick .error ≤ worst (tableOf (stateFrom f) l)
 unfolding showing lookupOutcome foundOf refuse
 shown-error f l tick =
-    by-test (sound (stateOf f) l)
-    (λ fit. by-test (leb ticks tick) (λ h. rw (fit, h) (omega arith)) (λ h. rw (fit, h) (found-error tick (tableOf (stateOf f) l))))
+    by-test (sound (stateFrom f) l)
+    (λ fit. by-test (leb ticks tick) (λ h. rw (fit, h) (omega arith)) (λ h. rw (fit, h) (found-error tick (tableOf (stateFrom f) l))))
     (λ fit. rw fit (omega arith))
 
-looked : (f : Fields) (l : List ℤ) (tick : ℕ) (here : Bool) → sound (stateOf f) l ≡ true → isHeld (holding tick (tableOf (stateOf f) l)) ≡ here → (here ≡ true → tick < ticks)
+looked : (f : Fields) (l : List ℤ) (tick : ℕ) (here : Bool) → sound (stateFrom f) l ≡ true → isHeld (holding tick (tableOf (stateFrom f) l)) ≡ here → (here ≡ true → tick < ticks)
     → lookupReply f l tick .refusal ≡ cond here 0 (cond (leb ticks tick) 6 12)
 unfolding firstDue
 looked f l tick true fit h small = ap (λ (x : ℕ × ℕ). x .0) (exported-demand1 .lookups f l tick .exactly) ∙ rw (fit, lt-leb ticks tick (small refl), h)
@@ -196,10 +195,10 @@ looked f l tick false fit h small = ap (λ (x : ℕ × ℕ). x .0) (exported-dem
 
 -- ---- what ndz_row and ndz_save write of it
 
-wrote-all : {A : Type 0} (form : Table → List A) (width : ℕ) (f : Fields) (l : List ℤ) (out : List A) → ((t : Table) → length (form t) ≡ width * length t) → sound (stateOf f) l ≡ true → width * f .used ≤ length out
-    → told (wrote form out (writeVerdict (stateOf f) l (width * f .used) (length out))) ≡ (wroteAll (f .used), form (tableOf (stateOf f) l) ++ drop (width * f .used) out)
+wrote-all : {A : Type 0} (form : Table → List A) (width : ℕ) (f : Fields) (l : List ℤ) (out : List A) → ((t : Table) → length (form t) ≡ width * length t) → sound (stateFrom f) l ≡ true → width * f .used ≤ length out
+    → told (wrote form out (writeVerdict (stateFrom f) l (width * f .used) (length out))) ≡ (wroteAll (f .used), form (tableOf (stateFrom f) l) ++ drop (width * f .used) out)
 unfolding writeVerdict refuse wrote telling
-wrote-all form width f l out wide fit h = rw (fit, le-ltb (length out) (width * f .used) h, wide (tableOf (stateOf f) l), length-slots l 0 (f .used))
+wrote-all form width f l out wide fit h = rw (fit, le-ltb (length out) (width * f .used) h, wide (tableOf (stateFrom f) l), length-slots l 0 (f .used))
 
 same-test : (c d : Bool) → one c ≡ one d → c ≡ d
 same-test true true e = refl
@@ -212,10 +211,10 @@ same-test false false e = refl
 pub promises : {kind steps gaps : ℕ} {rs : List Reading} {f : Fields} {l : List ℤ} → Called kind steps gaps rs f l → Promised kind steps gaps rs f l
 unfolding showing replying answer
 promises {kind} {steps} {gaps} {rs} {f} {l} c =
-    let plain : fieldsOf (stateOf f) ≡ f = reaches c .1 in
+    let plain : fieldsOf (stateFrom f) ≡ f = reaches c .1 in
     let k = keeps (reaches c .0) in
-    let t : Table = tableOf (stateOf f) l in
-    let facts = sound-facts (stateOf f) l (k .fit) in
+    let t : Table = tableOf (stateFrom f) l in
+    let facts = sound-facts (stateFrom f) l (k .fit) in
     record {
       keeps = k;
       plain = plain;
@@ -231,7 +230,7 @@ promises {kind} {steps} {gaps} {rs} {f} {l} c =
           let h : Settings = settingsOf n b q in
           let bytes : List ℕ = saved t in
           ap (λ (x : Table). replying none (answer (loaded h (saved x) room .0))) (sym (k .buckets))
-          ∙ ap (λ (x : Verdict State × List ℤ). replying none (answer (x .0))) (loaded-kept (stateOf f .settings) h bytes room (same ∙ sym (kept-twice (settingsOf kind steps gaps)) ∙ ap kept (sym (k .named))) ∙ saved-loaded (stateOf f) l room (k .fit) (subst (λ (x : Settings). slotWidth * needed x ≤ length room) (sym (k .named)) long))
+          ∙ ap (λ (x : Verdict State × List ℤ). replying none (answer (x .0))) (loaded-kept (stateFrom f .settings) h bytes room (same ∙ sym (kept-twice (settingsOf kind steps gaps)) ∙ ap kept (sym (k .named))) ∙ saved-loaded (stateFrom f) l room (k .fit) (subst (λ (x : Settings). slotWidth * needed x ≤ length room) (sym (k .named)) long))
           ∙ ap (λ (x : Fields). record { refusal = 0; place = 0; state = x }) plain;
       picture = λ curve E few near r m.
           let p = k .picture curve E few near in
@@ -243,7 +242,7 @@ promises {kind} {steps} {gaps} {rs} {f} {l} c =
           };
       covers = λ tick.
           looked f l tick (arrived tick rs) (k .fit)
-          (same-test (isHeld (holding tick t)) (arrived tick rs) (sym (held-counts 0 tick t (sound-ordered (stateOf f) l facts)) ∙ k .covers tick))
+          (same-test (isHeld (holding tick t)) (arrived tick rs) (sym (held-counts 0 tick t (sound-ordered (stateFrom f) l facts)) ∙ k .covers tick))
           (λ here. held-small (kindOf (f .kind)) 0 tick t (facts .rules) (omega (arith, k .covers tick, ap one here)));
     }
 
@@ -253,5 +252,5 @@ exported-demand2 = record {
   same-bytes = λ kind steps gaps file out l known long z.
       let h : Settings = settingsOf kind steps gaps in
       let a = accepts none (loaded h file l) {r = replying none (answer (loaded h file l .0))} {m = loaded h file l .1} refl z in
-      ap told (loaded-saved h file l (stateOf (replying none (answer (loaded h file l .0)) .state)) out known (ap (λ (x : Verdict State × List ℤ). x .0) (a .outcome)) long);
+      ap told (loaded-saved h file l (stateFrom (replying none (answer (loaded h file l .0)) .state)) out known (ap (λ (x : Verdict State × List ℤ). x .0) (a .outcome)) long);
 }

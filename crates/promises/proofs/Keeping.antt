@@ -31,13 +31,14 @@ use Rattle.room.proofs.Sounding.{Facts, sound-facts, sound-ordered}
 use Rattle.settings.proofs.Bounds.{steps-bounds}
 use Rattle.trace.specs.Left.{LeavesSound, LeftBy}
 use Rattle.saved.proofs.RoundTrips.{saved-accepted}
-use Rattle.trace.proofs.Leaving.{late-leaves, next-leaves, open-leaves}
+use Rattle.trace.proofs.Arriving.{late-free}
+use Rattle.trace.proofs.Leaving.{late-either, late-leaves, next-either, next-leaves, open-either, open-leaves}
 use Rattle.demands.specs.History.{Accepted, Reading, Takes, arrived, runsOf, tableAfter}
 use Rattle.demands.specs.Served.{Near, Served, Shown}
 use Rattle.demands.proofs.Instance.{demand3}
 use Rattle.promises.specs.Reached.{Reached, late-refused, lates, load-refused, loads, next-refused, nexts, open-refused, opens}
 use Rattle.promises.specs.Demands.{Kept, Seen}
-use Rattle.promises.proofs.Outcomes.{bytes-written, late-taken, next-taken, open-taken, traced-accepted, traced-refused}
+use Rattle.promises.proofs.Outcomes.{accepted-is, bytes-written, not-accepted, traced-refused}
 
 -- ---- along the way
 
@@ -103,19 +104,24 @@ late-takes Late t tick e h = h
 known : {g : Settings} {rs : List Reading} {s : State} {l : List ℤ} → Reached g rs s l → Known g rs s l
 unfolding tableAfter Accepted slots
 known {g} (opens l {m = m} {s = s} e) =
-    let o = traced-accepted (kept g) l (admitted (kept g) l (accepted [])) s m e in
-    record { named = ap (λ (x : State). x .settings) (o .state); fit = left-sound e (open-leaves g l); buckets = ap (λ (x : State). tableOf x m) (o .state ∙ ap (stateOf (kept g)) (open-taken (kept g) l [] (o .table) (o .verdict))); taken = tt }
-known (nexts {rs = rs} {s = s} {t = t} {l = l} {m = m} v range r e) =
-    let o = traced-accepted (s .settings) l (nextVerdict s l v) t m e in
-    let n = next-taken s l v (o .table) (o .verdict) in
-    step (known r) (record { tick = nextTick (tableOf s l); value = v }) t m (next-takes (s .settings .kind) (tableOf s l) (n .kind))
-    (o .state ∙ ap (stateOf (s .settings)) (n .table)) (o .room ∙ ap (λ (x : Table). laid (needed (s .settings)) x l) (n .table)) (left-sound e (next-leaves s l v (signed-fits v range)))
-known (lates {rs = rs} {s = s} {t = t} {l = l} {m = m} tick v range r e) =
-    let o = traced-accepted (s .settings) l (lateVerdict s l tick v) t m e in
-    let n = late-taken s l tick v (o .table) (o .verdict) in
-    let free = held-counts 0 tick (tableOf s l) (sound-ordered s l (sound-facts s l (n .fit))) ∙ ap one (n .free) in
-    step (known r) (record { tick = tick; value = v }) t m (late-takes (s .settings .kind) (tableOf s l) tick (n .kind) free)
-    (o .state ∙ ap (stateOf (s .settings)) (n .table)) (o .room ∙ ap (λ (x : Table). laid (needed (s .settings)) x l) (n .table)) (left-sound e (late-leaves s l tick v (signed-fits v range)))
+    open-either g l (λ w. traced (kept g) l w ≡ (accepted s, m) → Known g [] s m) (λ q f. absurd (not-accepted (kept g) l q f))
+    (λ _ f.
+    let o = accepted-is (kept g) l [] f in
+    record { named = ap (λ (x : State). x .settings) (o .0); fit = left-sound e (open-leaves g l); buckets = ap (λ (x : State). tableOf x m) (o .0); taken = tt }) e
+known {g} (nexts {rs = rs} {s = s} {t = t} {l = l} {m = m} v range r e) =
+    let k = known r in
+    let q : Reading = record { tick = nextTick (tableOf s l); value = v } in
+    next-either s l v (λ w. traced (s .settings) l w ≡ (accepted t, m) → Known g (q ∷ rs) t m) (λ n f. absurd (not-accepted (s .settings) l n f))
+    (λ kind _ _ f.
+    let o = accepted-is (s .settings) l _ f in
+    step k q t m (next-takes (s .settings .kind) (tableOf s l) kind) (o .0) (o .1) (left-sound e (next-leaves s l v (signed-fits v range)))) e
+known {g} (lates {rs = rs} {s = s} {t = t} {l = l} {m = m} tick v range r e) =
+    let k = known r in
+    let q : Reading = record { tick = tick; value = v } in
+    late-either s l v (λ w. traced (s .settings) l w ≡ (accepted t, m) → Known g (q ∷ rs) t m) (λ n f. absurd (not-accepted (s .settings) l n f)) tick
+    (λ p free _ _ f.
+    let o = accepted-is (s .settings) l _ f in
+    step k q t m (late-takes (s .settings .kind) (tableOf s l) tick (p .kind) (late-free p free)) (o .0) (o .1) (left-sound e (late-leaves s l tick v (signed-fits v range)))) e
 known {g} (next-refused {rs = rs} {s = s} {l = l} {m = m} {r = q} v r e) = subst (Known g rs s) (sym (traced-refused (s .settings) l (nextVerdict s l v) q m e)) (known r)
 known {g} (late-refused {rs = rs} {s = s} {l = l} {m = m} {r = q} tick v r e) = subst (Known g rs s) (sym (traced-refused (s .settings) l (lateVerdict s l tick v) q m e)) (known r)
 known {g} (open-refused {rs = rs} {s = s} {l = l} {m = m} {r = q} h r e) = subst (Known g rs s) (sym (traced-refused (kept h) l (admitted (kept h) l (accepted [])) q m e)) (known r)

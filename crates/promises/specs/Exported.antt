@@ -23,7 +23,7 @@ use Rattle.ndezulangi.specs.declared.Counted.{Counted}
 use Rattle.ndezulangi.specs.declared.Fields.{Fields}
 use Rattle.ndezulangi.specs.declared.Reply.{Reply}
 use Rattle.ndezulangi.specs.declared.Shown.{Shown}
-use Rattle.ndezulangi.specs.Plain.{fieldsOf, kindOf, lateReply, loadReply, lookupReply, nextReply, none, numberOf, openReply, rowReply, saveReply, settingsOf, stateOf}
+use Rattle.ndezulangi.specs.Plain.{fieldsOf, kindOf, lateReply, loadReply, lookupReply, nextReply, none, numberOf, openReply, rowReply, saveReply, settingsOf, stateFrom}
 use Rattle.promises.specs.Answered.{Row, fileRows, lateRows, lookupRows, nextRows, openRows, writeRows}
 use Rattle.promises.specs.Demands.{Kept}
 
@@ -52,19 +52,19 @@ pub record Counts {A : Type 0} (rows : List Row) (before after : List A) (c : Co
 -- of each function, for any numbers and bytes: open and load hand back zeros where they are refused, the two readings the state that was given
 pub record ExportedDemand1 : Type 0 where
   pub opens : (kind steps gaps : ℕ) (l : List ℤ) → let o = openReply kind steps gaps l in Replies (openRows (settingsOf kind steps gaps) l) none l (o .1) (o .0)
-  pub nexts : (f : Fields) (l : List ℤ) (v : ℤ) → let o = nextReply f l v in Replies (nextRows (stateOf f) l) f l (o .1) (o .0)
-  pub lates : (f : Fields) (l : List ℤ) (tick : ℕ) (v : ℤ) → let o = lateReply f l tick v in Replies (lateRows (stateOf f) l tick v) f l (o .1) (o .0)
-  pub lookups : (f : Fields) (l : List ℤ) (tick : ℕ) → Shows (lookupRows (stateOf f) l tick) (lookupReply f l tick)
+  pub nexts : (f : Fields) (l : List ℤ) (v : ℤ) → let o = nextReply f l v in Replies (nextRows (stateFrom f) l) f l (o .1) (o .0)
+  pub lates : (f : Fields) (l : List ℤ) (tick : ℕ) (v : ℤ) → let o = lateReply f l tick v in Replies (lateRows (stateFrom f) l tick v) f l (o .1) (o .0)
+  pub lookups : (f : Fields) (l : List ℤ) (tick : ℕ) → Shows (lookupRows (stateFrom f) l tick) (lookupReply f l tick)
   -- four numbers a bucket
-  pub rows : (f : Fields) (l : List ℤ) (out : List ℤ) → let o = rowReply f l out in Counts (writeRows (stateOf f) l (length out) (slotWidth * f .used)) out (o .1) (o .0)
+  pub rows : (f : Fields) (l : List ℤ) (out : List ℤ) → let o = rowReply f l out in Counts (writeRows (stateFrom f) l (length out) (slotWidth * f .used)) out (o .1) (o .0)
   -- sixteen bytes a bucket
-  pub saves : (f : Fields) (l : List ℤ) (out : List ℕ) → let o = saveReply f l out in Counts (writeRows (stateOf f) l (length out) (recordWidth * f .used)) out (o .1) (o .0)
+  pub saves : (f : Fields) (l : List ℤ) (out : List ℕ) → let o = saveReply f l out in Counts (writeRows (stateFrom f) l (length out) (recordWidth * f .used)) out (o .1) (o .0)
   pub loads : (kind steps gaps : ℕ) (file : List ℕ) (l : List ℤ) → let o = loadReply kind steps gaps file l in
       Replies (openRows (settingsOf kind steps gaps) l ++ fileRows (settingsOf kind steps gaps) file) none l (o .1) (o .0)
   -- 8: the record at its place is the file's, it breaks a rule, and all before it meet them
   pub places : (kind steps gaps : ℕ) (file : List ℕ) (l : List ℤ) → let r = loadReply kind steps gaps file l .0 in r .refusal ≡ 8 → FirstBroken (kindOf kind) file (r .place)
   -- the zeros that a refused open or load hands back are sound in no room, so no call accepts them
-  pub unsound : (l : List ℤ) → sound (stateOf none) l ≡ false
+  pub unsound : (l : List ℤ) → sound (stateFrom none) l ≡ false
   pub unusable : (l : List ℤ) (tick : ℕ) (v : ℤ) (out : List ℤ) (bytes : List ℕ)
       → nextReply none l v .0 .refusal ∷ lateReply none l tick v .0 .refusal ∷ lookupReply none l tick .refusal ∷ rowReply none l out .0 .refusal ∷ saveReply none l bytes .0 .refusal ∷ []
       ≡ 4 ∷ 4 ∷ 4 ∷ 4 ∷ 4 ∷ []
@@ -109,9 +109,9 @@ wroteAll n = record { refusal = 0; place = 0; buckets = n }
 -- of a trace opened with the numbers kind, steps and gaps
 pub record Promised (kind steps gaps : ℕ) (rs : List Reading) (f : Fields) (l : List ℤ) : Type 0 where
   -- demands 2 and 3, as the calls keep them, of the state with these fields
-  pub keeps : Kept (settingsOf kind steps gaps) rs (stateOf f) l
+  pub keeps : Kept (settingsOf kind steps gaps) rs (stateFrom f) l
   -- the fields are that state's, and say nothing else
-  pub plain : fieldsOf (stateOf f) ≡ f
+  pub plain : fieldsOf (stateFrom f) ≡ f
   -- the numbers named at the opening: a late kind is 1, and in order K is kept as 0
   pub kind-named : f .kind ≡ numberOf (kindOf kind)
   pub steps-named : f .steps ≡ steps

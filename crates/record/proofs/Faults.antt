@@ -75,7 +75,7 @@ past-all k e i [] n h p = refl
 past-all k e i (b ∷ t) n h p =
     passed i (broken k e b) n (firstFault k (end b) (suc i) t) (omega arith) (past-all k (end b) (suc i) t n (omega arith)) p
 
-length-records : (l : List ℕ) (i n : ℕ) → length (records l i n) ≡ n
+pub length-records : (l : List ℕ) (i n : ℕ) → length (records l i n) ≡ n
 unfolding records
 length-records l i zero = refl
 length-records l i (suc n) = ap suc (length-records l (suc i) n)

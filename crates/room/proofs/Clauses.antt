@@ -12,7 +12,7 @@ use Rattle.rule.specs.Room.{allOf, clauses, gapsGood, restZero, roomy, runsAllo
 use Rattle.rule.specs.Table.{limit}
 use Rattle.room.proofs.Tests.{fails}
 use Rattle.room.proofs.Scanning.{scanned}
-use Rattle.settings.proofs.Bounds.{limit-gaps, needed-small}
+use Rattle.settings.proofs.Bounds.{limit-gaps, mostAllowed, needed-small}
 
 abbrev pub tests : State → List ℤ → List Bool
 tests s l =
@@ -35,7 +35,7 @@ unsound s l i e = sym (sound-tests s l ∙ fails (tests s l) i e)
 -- ---- limits
 
 pub record Limits (s : State) : Type 0 where
-  pub small : limit (s .settings) (s .settings .gaps) ≤ 768
+  pub small : limit (s .settings) (s .settings .gaps) ≤ mostAllowed
   pub grows : limit (s .settings) (s .runs) ≤ limit (s .settings) (s .settings .gaps)
 
 pub limits : (s : State) → stepsGood (s .settings) ≡ true → gapsGood (s .settings .kind) (s .settings .gaps) ≡ true

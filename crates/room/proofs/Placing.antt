@@ -26,8 +26,8 @@ use Rattle.rule.proofs.Tables.{before-none, ends-before, eqb-counts, held-none,
 use Rattle.slots.specs.Slots.{Filled}
 use Rattle.room.specs.Steps.{Placed, position}
 use Rattle.rule.proofs.Ruling.{and-left, and-right}
-use Rattle.slots.proofs.Laying.{length-slots, unsigned-pos}
-use Rattle.slots.proofs.Reading.{filled, ranges, unsigned-held}
+use Rattle.slots.proofs.Laying.{length-slots}
+use Rattle.slots.proofs.Reading.{filled, ranges, unsigned-held, unsigned-pos}
 use Rattle.slots.proofs.Scoring.{slots-next}
 
 -- ---- who holds a tick

@@ -6,17 +6,17 @@ use native.Mathlib.Omega.{arith}
 use native.Mathlib.Nat.{pow-suc, le-of-lt}
 use lib.Dec.{T, eqb, leb, ltb, ltb→lt, le→leb}
 use lib.Pow.{pow-mono}
-use lib.IntN.{ℤ, pos, negℤ, _+ℤ_, _-ℤ_}
-use lib.Signed.{leZ, ltZ, mag}
+use lib.IntN.{ℤ, pos, negsuc, natAbs, negℤ, _+ℤ_, _-ℤ_}
+use lib.Signed.{leZ, ltZ, mag, nonNeg}
 use borrow.Author.Needs.{sfits-of}
 use borrow.Author.Tests.{eq-eqb, eqb-true}
-use mir.Syntax.{Width, w32}
-use mir.Val.{SFits, hbits, toZ, ofZ}
-use mir.Facts.{sfits-widen, toZ-ofZ}
+use mir.Syntax.{Width, w32, w64}
+use mir.Val.{Fits, SFits, hbits, toZ, ofZ}
+use mir.Facts.{fits-natAbs, sfits-widen, toZ-ofZ}
 use Rattle.rule.specs.Numbers.{half}
 use Rattle.rule.specs.Room.{signed, within}
 use Rattle.rule.specs.Rules.{equal}
-use Rattle.rule.proofs.Whole.{whole, by-test, sum, difference, le-leZ, one-side}
+use Rattle.rule.proofs.Whole.{whole, by-test, down, sum, difference, le-leZ, one-side}
 use Rattle.rule.proofs.Ruling.{and-both, and-left, and-right}
 
 -- z read from its bits, where its range is told by itself: of a field of a struct, of a call's result
@@ -87,3 +87,21 @@ signed-fits z e =
 pub fits-signed : (z : ℤ) → SFits w32 z → signed z ≡ true
 unfolding within
 fits-signed z h = and-both {a = leZ (negℤ (pos half)) z} {b = ltZ z (pos half)} (omega whole) (omega whole)
+
+-- ---- one below the opposite, which has a number's bits turned over in two's complement
+
+-- what a cast to an unsigned number asks
+casts : (z : ℤ) → SFits w64 z → down z ≤ 0 → T (nonNeg z) × Fits w64 (natAbs z)
+casts (pos n) fits h = (tt, fits-natAbs tt fits)
+casts (negsuc n) fits h = absurd (omega whole)
+
+module _ (z : ℤ) (fits : SFits w64 z) where
+  pub turned-fits : SFits w64 (negsuc 0 -ℤ z)
+  turned-fits = omega (whole, difference (negsuc 0) z, one-side z, one-side (negsuc 0 -ℤ z))
+
+  -- of a number below 0 turned over, and of another as it is
+  pub turned-casts : ltZ z (pos 0) ≡ true → T (nonNeg (negsuc 0 -ℤ z)) × Fits w64 (natAbs (negsuc 0 -ℤ z))
+  turned-casts h = casts (negsuc 0 -ℤ z) turned-fits (omega (whole, difference (negsuc 0) z, one-side z, one-side (negsuc 0 -ℤ z)))
+
+  pub straight-casts : ltZ z (pos 0) ≡ false → T (nonNeg z) × Fits w64 (natAbs z)
+  straight-casts h = casts z fits (omega (whole, one-side z))

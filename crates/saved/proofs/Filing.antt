@@ -5,7 +5,7 @@ use mathlib.Core.Bool.{Bool, true, false, not, false≢true}
 use mathlib.Core.List.{List, [], _∷_, _++_, append-assoc, append-nil}
 use native.Mathlib.Omega.{arith}
 use native.Mathlib.Nat.{add-zero, zero-add}
-use borrow.Author.Tests.{eqb-true, eq-eqb, leb-true, le-leb, ltb-false, le-ltb}
+use borrow.Author.Tests.{eqb-true, eq-eqb, ltb-false, le-ltb, not-false}
 use lib.Dec.{eqb, ltb}
 use lib.IntN.{ℤ}
 use lib.ListN.{length, take, drop, length-append, length-drop}
@@ -25,12 +25,13 @@ use Rattle.rule.specs.Rules.{Fault, whole, fault, firstFault, isWhole}
 use Rattle.rule.specs.Table.{Table, limit, needed, readings, runs}
 use Rattle.rule.proofs.Ruling.{Ruled, facts-ruled, ordered-readings, ruled-end, ruled-facts, ruled-ordered}
 use Rattle.record.specs.Files as files
+use Rattle.record.proofs.Faults.{length-records}
 use Rattle.record.proofs.RoundTrip.{length-saved, put-saved}
 use Rattle.slots.specs.Slots.{put}
 use Rattle.slots.proofs.Shifting.{drop-past}
 use Rattle.settings.proofs.Bounds.{limit-gaps}
 use Rattle.slots.proofs.Laying.{flat-append, length-flat, length-slots, slots-split}
-use Rattle.settings.proofs.Granting.{Granted, admits, grants, holds, isAccepted, refuse-no}
+use Rattle.settings.proofs.Granting.{Granted, admits, past-admission, past-refusal}
 use Rattle.saved.specs.declared.Inspected.{Inspected}
 use Rattle.saved.specs.Verdicts.{inspection}
 use Rattle.rule.specs.Calls.{fileVerdict}
@@ -68,11 +69,6 @@ records-last f i (suc n) =
     let next : i + suc n ≡ suc i + n = omega arith in
     rw next (ap (λ (t : Table). recordAt f i ∷ t) (records-last f (suc i) n))
 
-length-records : (f : List ℕ) (i n : ℕ) → length (records f i n) ≡ n
-unfolding records
-length-records f i zero = refl
-length-records f i (suc n) = ap suc (length-records f (suc i) n)
-
 -- the next bucket, behind the slots of the table t
 put-behind : (t : Table) (b : Bucket) (rest : List ℤ) (i : ℕ) → length t ≡ i → put (flat t ++ rest) i b ≡ flat (t ++ (b ∷ [])) ++ drop slotWidth rest
 unfolding put flat
@@ -102,13 +98,6 @@ cleared f l i n h =
     let left : slotWidth * n - slotWidth * i ≡ slotWidth * (n - length t) = omega (arith, length-records f 0 i) in
     rw (take-at (flat t) (drop (slotWidth * i) l) (slotWidth * i) long, left, drop-past (flat t) l (slotWidth * i) (slotWidth * n) long (omega arith))
 
--- ---- verdicts
-
-refuse-none : {A : Type 0} (f : Fault) (v : Verdict A) → isAccepted (refuseFault f v) ≡ true → (f ≡ whole) × (isAccepted v ≡ true)
-unfolding isAccepted refuseFault
-refuse-none whole v e = (refl, e)
-refuse-none (fault i r) v e = absurd (false≢true e)
-
 -- ---- a file that loads
 
 pub record Loads (s : Settings) (file : List ℕ) : Type 0 where
@@ -131,6 +120,11 @@ unfolding isWhole
 is-whole whole e = refl
 is-whole (fault i r) e = absurd (false≢true e)
 
+past-fault : (P : Verdict Table → Type 0) (f : Fault) (v : Verdict Table) → ((r : Refusal) → P (refused r)) → (f ≡ whole → P v) → P (refuseFault f v)
+unfolding refuseFault
+past-fault P whole v refuses p = p refl
+past-fault P (fault i r) v refuses p = refuses (Refusal.Record i)
+
 module _ (s : Settings) (file : List ℕ) where
   pub file-loads : Loads s file → fileVerdict s file ≡ accepted (recordsOf file)
   unfolding fileVerdict refuse refuseFault
@@ -142,33 +136,21 @@ module _ (s : Settings) (file : List ℕ) where
         le-ltb (limit s (runs (recordsOf file))) (length (recordsOf file)) (h .few),
       )
 
-  loads-file : isAccepted (fileVerdict s file) ≡ true → Loads s file
+  -- what holds of every refusal, and of the records of a file that loads, holds of the file's verdict
+  file-either : (P : Verdict Table → Type 0) → ((r : Refusal) → P (refused r)) → (Loads s file → P (accepted (recordsOf file))) → P (fileVerdict s file)
   unfolding fileVerdict
-  loads-file e =
+  file-either P refuses loads =
       let t = recordsOf file in
-      let fourth = refuse (ltb (limit s (runs t)) (length t)) Refusal.Overfull (accepted t) in
-      let third = refuse (not (runsAllowed (s .kind) (s .gaps) (runs t))) Refusal.Runs fourth in
-      let second = refuseFault (firstFault (s .kind) 0 0 t) third in
-      let a = refuse-no (not (eqb (length file % recordWidth) 0)) Refusal.Length second e in
-      let b = refuse-none (firstFault (s .kind) 0 0 t) third (a .1) in
-      let c = refuse-no (not (runsAllowed (s .kind) (s .gaps) (runs t))) Refusal.Runs fourth (b .1) in
-      let d = refuse-no (ltb (limit s (runs t)) (length t)) Refusal.Overfull (accepted t) (c .1) in
-      record {
-        even = eqb-true (length file % recordWidth) 0 (holds (eqb (length file % recordWidth) 0) (a .0));
-        rules = whole-ruled (s .kind) t (b .0);
-        allowed = holds (runsAllowed (s .kind) (s .gaps) (runs t)) (c .0);
-        few = ltb-false (limit s (runs t)) (length t) (d .0);
-      }
+      past-refusal P (not (eqb (length file % recordWidth) 0)) Refusal.Length _ (refuses Refusal.Length)
+      (λ a. past-fault P (firstFault (s .kind) 0 0 t) _ refuses
+      (λ b. past-refusal P (not (runsAllowed (s .kind) (s .gaps) (runs t))) Refusal.Runs _ (refuses Refusal.Runs)
+      (λ c. past-refusal P (ltb (limit s (runs t)) (length t)) Refusal.Overfull _ (refuses Refusal.Overfull)
+      (λ d. loads (record { even = eqb-true (length file % recordWidth) 0 (not-false _ a); rules = whole-ruled (s .kind) t b; allowed = not-false _ c; few = ltb-false (limit s (runs t)) (length t) d })))))
 
 pub inspect-refuses : (v : Verdict Table) (r : Refusal) → inspection v ≡ Inspected.Refused r → v ≡ refused r
 unfolding inspection
 inspect-refuses (refused q) r e = cc
 inspect-refuses (accepted t) r e = absurd (let z : _≡_ {A = ℕ} 0 1 = cc in omega arith)
-
-inspection-counts : (v : Verdict Table) (c : Counted) → inspection v ≡ Inspected.Counts c → isAccepted v ≡ true
-unfolding inspection isAccepted
-inspection-counts (refused r) c e = absurd (let z : _≡_ {A = ℕ} 0 1 = cc in omega arith)
-inspection-counts (accepted t) c e = refl
 
 counted : (t : Table) (c : Counted) → inspection (accepted t) ≡ Inspected.Counts c → (c .runs ≡ runs t) × (c .readings ≡ readings t)
 unfolding inspection
@@ -176,9 +158,10 @@ counted t c e = let same : c ≡ record { runs = runs t; readings = readings t }
 
 pub inspect-counts : (s : Settings) (file : List ℕ) (c : Counted) → inspection (fileVerdict s file) ≡ Inspected.Counts c
     → Loads s file × ((c .runs ≡ runs (recordsOf file)) × (c .readings ≡ readings (recordsOf file)))
-inspect-counts s file c e =
-    let h = loads-file s file (inspection-counts (fileVerdict s file) c e) in
-    (h, counted (recordsOf file) c (rw (file-loads s file h) at e))
+unfolding inspection
+inspect-counts s file c =
+    file-either s file (λ v. inspection v ≡ Inspected.Counts c → Loads s file × ((c .runs ≡ runs (recordsOf file)) × (c .readings ≡ readings (recordsOf file))))
+    (λ r e. absurd (let z : _≡_ {A = ℕ} 0 1 = cc in omega arith)) (λ h e. (h, counted (recordsOf file) c e))
 
 -- the records of a file that loads leave a slot free
 pub loads-needed : (s : Settings) (file : List ℕ) → Loads s file → suc (length (recordsOf file)) ≤ needed s
@@ -186,16 +169,17 @@ loads-needed s file h = omega (arith, h .few, limit-gaps (s .kind) (2 * s .steps
 
 -- ---- a load that is accepted
 
-traced-accepted : (s : Settings) (l : List ℤ) (v : Verdict Table) (t : State) → traced s l v .0 ≡ accepted t → isAccepted v ≡ true
-unfolding traced isAccepted
-traced-accepted s l (refused r) t e = absurd (let z : _≡_ {A = ℕ} 0 1 = cc in omega arith)
-traced-accepted s l (accepted u) t e = refl
-
 module _ (s : Settings) (file : List ℕ) (l : List ℤ) where
   pub load-accepts : (t : State) → loaded s file l .0 ≡ accepted t → Granted (kept s) l × Loads (kept s) file
-  load-accepts t e =
-      let g = grants (kept s) l (fileVerdict (kept s) file) (traced-accepted (kept s) l (loadVerdict (kept s) file l) t e) in
-      (g .0, loads-file (kept s) file (g .1))
+  unfolding traced
+  load-accepts t =
+      past-admission (kept s) l (fileVerdict (kept s) file) P refuses (λ g. file-either (kept s) file P refuses (λ h e. (g, h)))
+    where
+      P : Verdict Table → Type 0
+      P v = traced (kept s) l v .0 ≡ accepted t → Granted (kept s) l × Loads (kept s) file
+
+      refuses : (r : Refusal) → P (refused r)
+      refuses r e = absurd (let z : _≡_ {A = ℕ} 0 1 = cc in omega arith)
 
   pub load-leaves : Granted (kept s) l → Loads (kept s) file → loaded s file l ≡ (accepted (stateOf (kept s) (recordsOf file)), laid (needed (kept s)) (recordsOf file) l)
   unfolding traced

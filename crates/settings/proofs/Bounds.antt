@@ -13,6 +13,13 @@ use Rattle.rule.specs.Room.{gapsBounded, gapsGood, runsAllowed, stepsGood}
 use Rattle.rule.specs.Table.{limitOver, needed}
 use Rattle.rule.proofs.Ruling.{and-left, and-right}
 
+-- the most buckets that good settings allow, and the most slots that they need
+abbrev pub mostAllowed : ℕ
+mostAllowed = 3 * most
+
+abbrev pub mostNeeded : ℕ
+mostNeeded = mostAllowed + 1
+
 -- the limit grows with the runs, which are at most K
 pub limit-gaps : (k : Kind) (base gaps runs : ℕ) → runsAllowed k gaps runs ≡ true → limitOver k base runs ≤ limitOver k base gaps
 unfolding runsAllowed limitOver
@@ -29,5 +36,5 @@ unfolding stepsGood
 steps-bounds s h = (leb-true 1 (s .steps) (and-left (leb 1 (s .steps)) (leb (s .steps) most) h), leb-true (s .steps) most (and-right (leb 1 (s .steps)) (leb (s .steps) most) h))
 
 -- the limit at the most runs allowed is small
-pub needed-small : (s : Settings) → stepsGood s ≡ true → gapsGood (s .kind) (s .gaps) ≡ true → needed s ≤ 769
+pub needed-small : (s : Settings) → stepsGood s ≡ true → gapsGood (s .kind) (s .gaps) ≡ true → needed s ≤ mostNeeded
 needed-small s h k = omega (arith, steps-bounds s h, gaps-small (s .kind) (2 * s .steps) (s .gaps) k)

@@ -1,10 +1,10 @@
 -- What it means that settings and room are admitted, and that what comes after does not change the first three refusals.
 use Prim.Native.Nat.{ℕ, _*_, _≤_}
-use mathlib.Core.Path.{_≡_, refl, sym}
-use mathlib.Core.Bool.{Bool, true, false, not, false≢true}
+use mathlib.Core.Path.{_≡_, refl}
+use mathlib.Core.Bool.{Bool, true, false, not}
 use mathlib.Core.List.{List, []}
 use native.Mathlib.Omega.{arith}
-use borrow.Author.Tests.{leb-true, le-leb}
+use borrow.Author.Tests.{leb-true, le-leb, not-false}
 use lib.IntN.{ℤ}
 use lib.ListN.{length}
 use Rattle.rule.specs.declared.Refusal.{Refusal}
@@ -16,18 +16,11 @@ use Rattle.rule.specs.Table.{Table, needed}
 use Rattle.settings.specs.declared.Admitted.{Admitted}
 use Rattle.settings.specs.Admission.{admission}
 
-unfoldable pub isAccepted : {A : Type 0} → Verdict A → Bool
-isAccepted (refused r) = false
-isAccepted (accepted t) = true
-
-pub refuse-no : {A : Type 0} (c : Bool) (r : Refusal) (v : Verdict A) → isAccepted (refuse c r v) ≡ true → (c ≡ false) × (isAccepted v ≡ true)
-unfolding isAccepted refuse
-refuse-no true r v e = absurd (false≢true e)
-refuse-no false r v e = (refl, e)
-
-pub holds : (c : Bool) → not c ≡ false → c ≡ true
-holds true e = refl
-holds false e = sym e
+-- what holds of a refusal, and of the rest where the test fails, holds of both
+pub past-refusal : {A : Type 0} (P : Verdict A → Type 0) (c : Bool) (r : Refusal) (v : Verdict A) → P (refused r) → (c ≡ false → P v) → P (refuse c r v)
+unfolding refuse
+past-refusal P true r v p f = p
+past-refusal P false r v p f = f refl
 
 -- ---- settings and room that are admitted
 
@@ -40,15 +33,14 @@ pub admits : (s : Settings) (l : List ℤ) → Granted s l → (v : Verdict Tabl
 unfolding admitted refuse roomy
 admits s l g v = rw (g .steps, g .gaps, le-leb (slotWidth * needed s) (length l) (g .long))
 
-pub grants : (s : Settings) (l : List ℤ) (v : Verdict Table) → isAccepted (admitted s l v) ≡ true → Granted s l × (isAccepted v ≡ true)
+-- what open and load ask, passed
+pub past-admission : (s : Settings) (l : List ℤ) (v : Verdict Table) (P : Verdict Table → Type 0) → ((r : Refusal) → P (refused r)) → (Granted s l → P v) → P (admitted s l v)
 unfolding admitted roomy
-grants s l v e =
-    let third = refuse (not (roomy s l)) Refusal.Room v in
-    let second = refuse (not (gapsGood (s .kind) (s .gaps))) Refusal.Gaps third in
-    let a = refuse-no (not (stepsGood s)) Refusal.Steps second e in
-    let b = refuse-no (not (gapsGood (s .kind) (s .gaps))) Refusal.Gaps third (a .1) in
-    let c = refuse-no (not (roomy s l)) Refusal.Room v (b .1) in
-    (record { steps = holds (stepsGood s) (a .0); gaps = holds (gapsGood (s .kind) (s .gaps)) (b .0); long = leb-true (slotWidth * needed s) (length l) (holds (roomy s l) (c .0)) }, c .1)
+past-admission s l v P refuses passed =
+    past-refusal P (not (stepsGood s)) Refusal.Steps _ (refuses Refusal.Steps)
+    (λ a. past-refusal P (not (gapsGood (s .kind) (s .gaps))) Refusal.Gaps _ (refuses Refusal.Gaps)
+    (λ b. past-refusal P (not (roomy s l)) Refusal.Room v (refuses Refusal.Room)
+    (λ c. passed (record { steps = not-false _ a; gaps = not-false _ b; long = leb-true (slotWidth * needed s) (length l) (not-false _ c) }))))
 
 -- what comes after the first three refusals does not change them
 same-refusal : (a b c : Bool) (s : Settings) (r : Refusal) (v : Verdict Table)
@@ -64,12 +56,7 @@ pub admit-refuses : (s : Settings) (l : List ℤ) (r : Refusal) → admission s 
 unfolding admitted
 admit-refuses s l r e v = same-refusal (stepsGood s) (gapsGood (s .kind) (s .gaps)) (roomy s l) s r v e
 
-admission-slots : (s : Settings) (v : Verdict Table) (n : ℕ) → admission s v ≡ Admitted.Slots n → (isAccepted v ≡ true) × (n ≡ needed s)
-unfolding admission isAccepted
-admission-slots s (refused r) n e = absurd (let z : _≡_ {A = ℕ} 0 1 = cc in omega arith)
-admission-slots s (accepted t) n e = (refl, cc)
-
 pub admit-grants : (s : Settings) (l : List ℤ) (n : ℕ) → admission s (admitted s l (accepted [])) ≡ Admitted.Slots n → Granted s l × (n ≡ needed s)
-admit-grants s l n e =
-    let a = admission-slots s (admitted s l (accepted [])) n e in
-    (grants s l (accepted []) (a .0) .0, a .1)
+unfolding admission
+admit-grants s l n =
+    past-admission s l (accepted []) (λ v. admission s v ≡ Admitted.Slots n → Granted s l × (n ≡ needed s)) (λ r e. absurd (let z : _≡_ {A = ℕ} 0 1 = cc in omega arith)) (λ g e. (g, cc))

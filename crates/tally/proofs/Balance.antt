@@ -1,7 +1,7 @@
 -- In a session the tally's counts are the numbers of accepted and refused readings, merges equals accepted minus buckets, and the session of the definitions is the one that the calls' contracts make.
 use Prim.Native.Nat.{ℕ, _+_, _-_, _≤_, _<_, min}
 use mathlib.Core.Path.{_≡_, refl, sym, ap, _∙_, subst}
-use mathlib.Core.Bool.{true, not}
+use mathlib.Core.Bool.{true}
 use mathlib.Core.List.{List, [], _∷_}
 use native.Mathlib.Omega.{arith}
 use lib.IntN.{ℤ}
@@ -10,9 +10,9 @@ use mir.Val.{SFits}
 use Rattle.rule.specs.declared.Refusal.{Refusal}
 use Rattle.rule.specs.declared.Settings.{Settings}
 use Rattle.rule.specs.declared.State.{State}
-use Rattle.rule.specs.Calls.{Verdict, accepted, admitted, counted, grown, kept, opened, refused, stateOf, traced}
+use Rattle.rule.specs.Calls.{Verdict, accepted, counted, grown, kept, opened, refused, stateOf, traced}
 use Rattle.rule.specs.Numbers.{tallyMost, ticks, word}
-use Rattle.rule.specs.Room.{gapsGood, roomy, sound, stepsGood, tableOf}
+use Rattle.rule.specs.Room.{sound, tableOf}
 use Rattle.rule.specs.Table.{Table, accept, readings}
 use Rattle.rule.proofs.Signed.{signed-fits}
 use Rattle.room.proofs.Sounding.{sound-facts, sound-readings}
@@ -20,9 +20,9 @@ use Rattle.trace.specs.declared.Answer.{Answer}
 use Rattle.trace.specs.Answers.{answer}
 use Rattle.trace.specs.Left.{LeavesSound, LeftBy}
 use Rattle.room.specs.Steps.{Ready}
-use Rattle.trace.proofs.Leaving.{late-either, next-either, open-leaves, past-refusal}
+use Rattle.trace.proofs.Leaving.{late-either, next-either, open-either, open-leaves}
 use Rattle.room.proofs.Taking.{taken-short, taken-sound, taken-state}
-use Rattle.tally.specs.Session.{AlwaysTallied, CallsLeave, GrownTally, Reading, Session, TrueTally, acceptedAmong, acceptedOne, after, begun, late, left, next, onward, outcome, refusedAmong, refusedOne, verdict}
+use Rattle.tally.specs.Session.{AlwaysTallied, CallsLeave, GrownTally, Call, Session, TrueTally, acceptedAmong, acceptedOne, after, begun, late, left, next, onward, outcome, refusedAmong, refusedOne, verdict}
 
 -- ---- how the counts grow, on any state and room with any tally
 
@@ -60,16 +60,16 @@ module _ (c : Session) where
   taken-brings at k tick v r fits small = omega (arith, taken-short (c .state) (c .room) at k tick v r fits small)
 
   -- a reading brings a bucket at most
-  brings : (r : Reading) → left c (outcome c r) .state .used ≤ c .state .used + acceptedOne (outcome c r .0)
+  brings : (r : Call) → left c (outcome c r) .state .used ≤ c .state .used + acceptedOne (outcome c r .0)
   unfolding outcome
-  brings (next v ranged) = next-either (c .state) (c .room) v Brings refused-brings (λ at k tick r small. taken-brings at k tick v r (signed-fits v ranged) small)
-  brings (late tick v ranged) = late-either (c .state) (c .room) v Brings refused-brings (λ at k t r small. taken-brings at k t v r (signed-fits v ranged) small) tick
+  brings (next v ranged) = next-either (c .state) (c .room) v Brings refused-brings (λ _ r small. taken-brings _ _ _ v r (signed-fits v ranged) small)
+  brings (late tick v ranged) = late-either (c .state) (c .room) v Brings refused-brings tick (λ _ _ r small. taken-brings _ _ _ v r (signed-fits v ranged) small)
 
 -- to grow twice is to grow by the sum
 twice : (m d e f : ℕ) {n o : ℕ} → n ≡ min (m + d) tallyMost → o ≡ min (n + e) tallyMost → d + e ≡ f → o ≡ min (m + f) tallyMost
 twice m d e f p q s = omega (arith, p, q, s)
 
-grows : (c : Session) (rs : List Reading) → GrownTally c rs
+grows : (c : Session) (rs : List Call) → GrownTally c rs
 unfolding after acceptedAmong refusedAmong
 grows c [] = record { each = refl; accepted-grown = λ small. omega arith; refused-grown = λ small. omega arith; buckets = omega arith; merges-grown = λ small. omega arith }
 grows c (r ∷ rs) =
@@ -117,29 +117,25 @@ module _ (c : Session) (e : Even c) where
       let most : readings t ≤ ticks = omega (arith, facts .true-readings, sound-readings (stateOf (state .settings) t) _ facts) in
       record { fit = whole; each = omega (arith, e .each) }
 
-  stays : (r : Reading) → Even (left c (outcome c r))
+  stays : (r : Call) → Even (left c (outcome c r))
   unfolding outcome
-  stays (next v ranged) = next-either state room v Stays refused-stays (λ at k tick r small. taken-stays at k tick v r (signed-fits v ranged) small)
-  stays (late tick v ranged) = late-either state room v Stays refused-stays (λ at k t r small. taken-stays at k t v r (signed-fits v ranged) small) tick
+  stays (next v ranged) = next-either state room v Stays refused-stays (λ _ r small. taken-stays _ _ _ v r (signed-fits v ranged) small)
+  stays (late tick v ranged) = late-either state room v Stays refused-stays tick (λ _ _ r small. taken-stays _ _ _ v r (signed-fits v ranged) small)
 
 -- ---- all readings
 
-after-even : (c : Session) → Even c → (rs : List Reading) → Even (after c rs)
+after-even : (c : Session) → Even c → (rs : List Call) → Even (after c rs)
 unfolding after
 after-even c e [] = e
 after-even c e (r ∷ rs) = after-even (left c (outcome c r)) (stays c e r) rs
 
 -- an opened trace is empty
 opened-empty : (s : Settings) (l : List ℤ) → onward (stateOf (kept s) []) (opened s l .0) ≡ stateOf (kept s) []
-unfolding admitted traced onward
-opened-empty s l =
-    let P : Verdict Table → Type 0 = λ v. onward (stateOf (kept s) []) (traced (kept s) l v .0) ≡ stateOf (kept s) [] in
-    past-refusal P (not (stepsGood (kept s))) Refusal.Steps _ refl
-    (λ _. past-refusal P (not (gapsGood (kept s .kind) (kept s .gaps))) Refusal.Gaps _ refl
-    (λ _. past-refusal P (not (roomy (kept s) l)) Refusal.Room _ refl (λ _. refl)))
+unfolding traced onward
+opened-empty s l = open-either s l (λ v. onward (stateOf (kept s) []) (traced (kept s) l v .0) ≡ stateOf (kept s) []) (λ r. refl) (λ g. refl)
 
 -- a sound trace has at most `ticks` readings, so accepted has not stopped
-from-opening : (s : Settings) (l : List ℤ) (st : State) (l′ : List ℤ) → opened s l ≡ (accepted st, l′) → (rs : List Reading) → TrueTally (begun st l′) rs
+from-opening : (s : Settings) (l : List ℤ) (st : State) (l′ : List ℤ) → opened s l ≡ (accepted st, l′) → (rs : List Call) → TrueTally (begun st l′) rs
 unfolding LeftBy onward readings
 from-opening s l st l′ e rs =
     let empty : st ≡ stateOf (kept s) [] = ap (λ (o : Verdict State × List ℤ). onward (stateOf (kept s) []) (o .0)) (sym e) ∙ opened-empty s l in

@@ -33,8 +33,8 @@ use Rattle.tally.specs.Session.{verdict}
 use Rattle.tally.proofs.counted as counted
 
 module _ {M : Type 1} (𝓤 : URA M) (H : Heap 𝓤) (A : Atoms 𝓤) (at-mem : Memory → SProp 𝓤) (run : Routine → Fun 𝓤) where
-  abbrev pub Counted : Contract 𝓤
-  Counted = tripleOf 𝓤 H A counted.signature (counted.spec 𝓤 H A at-mem run)
+  abbrev pub Tallying : Contract 𝓤
+  Tallying = tripleOf 𝓤 H A counted.signature (counted.spec 𝓤 H A at-mem run)
 
   -- there is no `&mut`, so what is said of last values is dropped
   pub counted-of : (t : Tally) (st : Trace) (r : Answer) (u : Tally)
@@ -43,10 +43,10 @@ module _ {M : Type 1} (𝓤 : URA M) (H : Heap 𝓤) (A : Atoms 𝓤) (at-mem : 
 
   -- what the triple binds outside; the arguments are plain data, so what they own is had for nothing
   module _ (t : Tally) (st : Trace) (r : Answer) (vt vst vr : Val) where
-    abbrev pub to-counted : Counted .Ghost
+    abbrev pub to-counted : Tallying .Ghost
     to-counted = ((tt, tt, tt, (t, (st, (r, tt))), (vt ∷ [], (vst ∷ [], (vr ∷ [], tt)))), tt)
 
-    pub goes-counted : Given 𝓤 H A → Is T.the-row t (vt ∷ []) → Is S.the-row st (vst ∷ []) → Is N.the-row r (vr ∷ []) → ent 𝓤 (sem 𝓤 H A ftrue) (Counted .pre to-counted)
+    pub goes-counted : Given 𝓤 H A → Is T.the-row t (vt ∷ []) → Is S.the-row st (vst ∷ []) → Is N.the-row r (vr ∷ []) → ent 𝓤 (sem 𝓤 H A ftrue) (Tallying .pre to-counted)
     goes-counted W is-t is-st is-r =
         qed W (‵ ftrue ∷ []) ∵
         owned ! N.the-row (Is N.the-row) (EL.makes N.the-type N′.the-plain 𝓤 H A) r _ is-r $ fjoin ! $

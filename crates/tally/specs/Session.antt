@@ -21,9 +21,9 @@ verdict (Accepted t) = accepted (t .state)
 verdict (Refused r) = refused r
 
 -- a reading call, of any signed 32-bit number: the next of a trace in order, or one at its tick
-pub data Reading : Type 0 where
-  next : (v : ℤ) → signed v ≡ true → Reading
-  late : (tick : ℕ) (v : ℤ) → signed v ≡ true → Reading
+pub data Call : Type 0 where
+  next : (v : ℤ) → signed v ≡ true → Call
+  late : (tick : ℕ) (v : ℤ) → signed v ≡ true → Call
 
 -- what a caller has between calls
 pub record Session : Type 0 where
@@ -35,7 +35,7 @@ pub record Session : Type 0 where
 abbrev pub begun : State → List ℤ → Session
 begun s l = record { state = s; room = l; tally = record { accepted = 0; refused = 0; merges = 0 } }
 
-unfoldable pub outcome : Session → Reading → Verdict State × List ℤ
+unfoldable pub outcome : Session → Call → Verdict State × List ℤ
 outcome c (next v ranged) = nextOutcome (c .state) (c .room) v
 outcome c (late tick v ranged) = lateOutcome (c .state) (c .room) tick v
 
@@ -49,13 +49,13 @@ abbrev pub left : Session → Verdict State × List ℤ → Session
 left c o = record { state = onward (c .state) (o .0); room = o .1; tally = counted (c .tally) (c .state .used) (o .0) }
 
 -- after readings, the first of the list first
-unfoldable pub after : Session → List Reading → Session
+unfoldable pub after : Session → List Call → Session
 after c [] = c
 after c (r ∷ rs) = after (left c (outcome c r)) rs
 
 -- such a session is what a caller has: the answer, the room and the tally that the contracts of `next` and `late` ensure make what `left` says
 abbrev pub CallsLeave : Type 0
-CallsLeave = (c : Session) (x : Reading) (r : Answer) (l : List ℤ) (t : Tally) → (r, l) ≡ answered (outcome c x) → t ≡ counted (c .tally) (c .state .used) (verdict r)
+CallsLeave = (c : Session) (x : Call) (r : Answer) (l : List ℤ) (t : Tally) → (r, l) ≡ answered (outcome c x) → t ≡ counted (c .tally) (c .state .used) (verdict r)
     → record { state = onward (c .state) (verdict r); room = l; tally = t } ≡ left c (outcome c x)
 
 -- ---- the readings of a session, counted by their verdicts
@@ -69,19 +69,19 @@ refusedOne (refused r) = 1
 refusedOne (accepted t) = 0
 
 -- so many of the readings are accepted, each call getting what the last one left
-unfoldable pub acceptedAmong : Session → List Reading → ℕ
+unfoldable pub acceptedAmong : Session → List Call → ℕ
 acceptedAmong c [] = 0
 acceptedAmong c (r ∷ rs) = acceptedOne (outcome c r .0) + acceptedAmong (left c (outcome c r)) rs
 
 -- and so many are refused
-unfoldable pub refusedAmong : Session → List Reading → ℕ
+unfoldable pub refusedAmong : Session → List Call → ℕ
 refusedAmong c [] = 0
 refusedAmong c (r ∷ rs) = refusedOne (outcome c r .0) + refusedAmong (left c (outcome c r)) rs
 
 -- ---- what the tally says after them
 
 -- of any state and room, and any tally, whose counts have 32 bits: how they grow, and that they stop at the most
-pub record GrownTally (c : Session) (rs : List Reading) : Type 0 where
+pub record GrownTally (c : Session) (rs : List Call) : Type 0 where
   -- no reading is left uncounted
   pub each : acceptedAmong c rs + refusedAmong c rs ≡ length rs
   pub accepted-grown : c .tally .accepted ≤ tallyMost → after c rs .tally .accepted ≡ min (c .tally .accepted + acceptedAmong c rs) tallyMost
@@ -91,13 +91,13 @@ pub record GrownTally (c : Session) (rs : List Reading) : Type 0 where
   pub merges-grown : c .tally .merges ≤ tallyMost → after c rs .tally .merges ≡ min (c .tally .merges + (c .state .used + acceptedAmong c rs - after c rs .state .used)) tallyMost
 
 -- of a tally that was fresh at the opening c: accepted does not stop, because a trace has fewer ticks
-pub record TrueTally (c : Session) (rs : List Reading) : Type 0 where
+pub record TrueTally (c : Session) (rs : List Call) : Type 0 where
   pub accepted-true : after c rs .tally .accepted ≡ acceptedAmong c rs
   pub refused-true : after c rs .tally .refused ≡ min (refusedAmong c rs) tallyMost
   -- merges equals accepted minus buckets
   pub merges-true : after c rs .tally .merges + after c rs .state .used ≡ after c rs .tally .accepted
 
 pub record AlwaysTallied : Type 0 where
-  pub any : (c : Session) (rs : List Reading) → GrownTally c rs
+  pub any : (c : Session) (rs : List Call) → GrownTally c rs
   -- a fresh tally used with one trace from its opening, each call getting what the last one left, without a load
-  pub fresh : (s : Settings) (l : List ℤ) (st : State) (l′ : List ℤ) → opened s l ≡ (accepted st, l′) → (rs : List Reading) → TrueTally (begun st l′) rs
+  pub fresh : (s : Settings) (l : List ℤ) (st : State) (l′ : List ℤ) → opened s l ≡ (accepted st, l′) → (rs : List Call) → TrueTally (begun st l′) rs

@@ -12,7 +12,7 @@ use Rattle.rule.specs.declared.Kind.the-variants.{InOrder, Late}
 use Rattle.rule.specs.declared.Refusal.{Refusal}
 use Rattle.rule.specs.declared.State.{State}
 use Rattle.rule.specs.Calls.{accepted, isHeld, late, lateVerdict, refuse}
-use Rattle.rule.specs.Numbers.{ticks}
+use Rattle.rule.specs.Numbers.{most, ticks}
 use Rattle.rule.specs.Room.{gapsBounded, gapsGood, runsAllowed, sound, tableOf}
 use Rattle.rule.specs.Rules.{ruled}
 use Rattle.rule.specs.Table.{Table, accept, holders, holding, insert, runs, single}
@@ -28,10 +28,10 @@ use Rattle.room.specs.Steps.{Ready, with}
 
 -- ---- by the kind
 
-late-few : (k : Kind) (gaps n : ℕ) → late k ≡ true → gapsGood k gaps ≡ true → runsAllowed k gaps n ≡ true → n ≤ 256
+late-few : (k : Kind) (gaps n : ℕ) → late k ≡ true → gapsGood k gaps ≡ true → runsAllowed k gaps n ≡ true → n ≤ most
 unfolding late gapsGood gapsBounded runsAllowed
 late-few InOrder gaps n e g h = absurd (false≢true e)
-late-few Late gaps n e g h = omega (arith, leb-true n gaps h, leb-true gaps 256 (and-right (leb 1 gaps) (leb gaps 256) g))
+late-few Late gaps n e g h = omega (arith, leb-true n gaps h, leb-true gaps most (and-right (leb 1 gaps) (leb gaps most) g))
 
 few-allowed : (k : Kind) (gaps n : ℕ) → n ≤ gaps → runsAllowed k gaps n ≡ true
 unfolding runsAllowed
@@ -60,7 +60,7 @@ module _ {s : State} {l : List ℤ} {tick : ℕ} (p : Passed s l tick) where
   pub late-placed : {at : ℕ} → at ≡ position tick (tableOf s l) → Placed l (s .used) at tick
   late-placed {at} h = sound-placed s l at tick (p .fit) h
 
-  pub late-runs : s .runs ≤ 256
+  pub late-runs : s .runs ≤ most
   late-runs = late-few (s .settings .kind) (s .settings .gaps) (s .runs) (p .kind) (facts .gaps-good) (facts .allowed)
 
   -- k with the reading, from k before it and the buckets it touches

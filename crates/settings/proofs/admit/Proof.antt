@@ -10,7 +10,7 @@ use Rattle.rule.specs.Calls.{admitted, refuse}
 use Rattle.rule.specs.Numbers.{slotWidth}
 use Rattle.rule.specs.Room.{gapsGood, roomy, stepsGood}
 use Rattle.rule.specs.Table.{needed}
-use Rattle.settings.proofs.Bounds.{needed-small}
+use Rattle.settings.proofs.Bounds.{mostNeeded, needed-small}
 use Rattle.rule.proofs.Ruling.{flipped}
 use Rattle.settings.specs.Admission.{admission}
 use Rattle.settings.proofs.admit.Statement.{statement}
@@ -22,7 +22,7 @@ steps-here c = flipped (c .before .steps-good .ensures) (c .if1 .left)
 gaps-here : (c : tie.Else2) → gapsGood (c .before .before .before .before .args .s .kind) (c .before .before .before .before .args .s .gaps) ≡ true
 gaps-here c = flipped (c .before .gaps-good .ensures) (c .if2 .left)
 
-small : (c : tie.Else2) → needed (c .before .before .before .before .args .s) ≤ 769
+small : (c : tie.Else2) → needed (c .before .before .before .before .args .s) ≤ mostNeeded
 small c = needed-small (c .before .before .before .before .args .s) (steps-here (c .before .before)) (gaps-here c)
 
 steps-good-requires : tie.Need-steps-good-requires

@@ -1,4 +1,4 @@
--- `room::slots::cheapest` meets its contract: the cheapest neighbours so far and those that are left make the whole.
+-- `slots::cheapest` meets its contract: the cheapest neighbours so far and those that are left make the whole.
 use Prim.Native.Nat.{_+_, _-_}
 use native.Mathlib.Omega.{arith}
 use borrow.Author.Needs.{needs}

@@ -1,4 +1,4 @@
--- `room::slots::price` meets its contract.
+-- `slots::price` meets its contract.
 use borrow.Author.Needs.{needs}
 use Rattle.rule.specs.Table.{choice}
 use Rattle.slots.specs.Slots.{costOf}

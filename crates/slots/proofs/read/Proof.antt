@@ -1,4 +1,4 @@
--- `room::slots::read` meets its contract: the slot's numbers lie in the ranges of its fields.
+-- `slots::read` meets its contract: the slot's numbers lie in the ranges of its fields.
 use native.Mathlib.Nat.{add-zero}
 use borrow.Author.Needs.{needs}
 use mir.Syntax.{w64}

@@ -1,4 +1,4 @@
--- `room::slots::write` meets its contract.
+-- `slots::write` meets its contract.
 use Prim.Native.Nat.{_<_, _^_}
 use native.Mathlib.Omega.{arith}
 use lib.ListN.{length-set}

@@ -62,7 +62,7 @@ use Rattle.trace.proofs.Trace.late.Symbol.{name as #trace·Trace·late}
 use Rattle.trace.proofs.Trace.late.Met as core-thm
 use Rattle.tally.specs.Session.{verdict}
 use Rattle.tally.proofs.Operands.{holds}
-use Rattle.tally.proofs.Counting.{Counted, counted-of, goes-counted, to-counted}
+use Rattle.tally.proofs.Counting.{Tallying, counted-of, goes-counted, to-counted}
 use Rattle.tally.proofs.counted as counted
 use Rattle.tally.proofs.counted.Symbol as counted-def
 use Rattle.tally.proofs.counted.Symbol.{name as #tally·counted}
@@ -132,7 +132,7 @@ module _ {M : Type 1} (𝓤 : URA M) (H : Heap 𝓤) (A : Atoms 𝓤) (W : Given
       owned ! i32 (Is i32) (sint-makes 𝓤 H A W w32) v _ (refl, fits) $ fjoin ! $ owned ! u32 (Is u32) (uint-makes 𝓤 H A W w32) tick _ (refl, tick-fits) $ fjoin ! $ move ! (1 ∷ 0 ∷ []) $ fjoin ! $
       owned ! S.the-row (Is S.the-row) (LL.makes S.the-type S′.the-plain 𝓤 H A) st _ is-st $ fjoin ! $ done !
 
-  module _ (C : Calls 𝓤 H) (Λ : Loops 𝓤 H) (fm : FmC 𝓤 H (W .laws) C) (known-core : Triple 𝓤 (C #trace·Trace·late) (Core 𝓤 H A at-mem run)) (known-counted : Triple 𝓤 (C #tally·counted) (Counted 𝓤 H A at-mem run)) where
+  module _ (C : Calls 𝓤 H) (Λ : Loops 𝓤 H) (fm : FmC 𝓤 H (W .laws) C) (known-core : Triple 𝓤 (C #trace·Trace·late) (Core 𝓤 H A at-mem run)) (known-counted : Triple 𝓤 (C #tally·counted) (Tallying 𝓤 H A at-mem run)) where
     walk : Room i64 (length ys) → ent 𝓤 (onEntry 𝓤 H A late.signature (κ, (κ′, tt)) (q, (q′, tt)) a vals) (WpFn 𝓤 H C Λ code.function (p ∷ s ∷ k ∷ m ∷ vptr b′ o′ ∷ []) Post)
     walk room =
         qed W ((‵ (flft κ q) ⊛ ‵ (flft κ′ q′) ⊛ ‵ ftrue) ∷ ‵ (owns (S.the-row ∷ MutSlice (named 0) κ i64 ∷ u32 ∷ i32 ∷ MutRef (named 1) κ′ T.the-row ∷ []) a vals) ∷ []) ∵ enter ! C Λ code.function (p ∷ s ∷ k ∷ m ∷ vptr b′ o′ ∷ []) _ $
@@ -158,8 +158,8 @@ module _ {M : Type 1} (𝓤 : URA M) (H : Heap 𝓤) (A : Atoms 𝓤) (W : Given
         move ! (1 ∷ []) $ peeks ! T.the-row (Is T.the-row) (shows 𝓤 H A T.the-row) t (mach t ∷ []) (λ is-t. drop ! $
         -- [the tally's cell; the open borrow; obs; auth; the answer; the room's token; the last list; _10; …]
         assigns ! (of-opd ! (load ! (from ! (hop ! (look ! 17 refl) (stop !))) (look-raw ! 0 refl))) (from ! (stop !)) (init ! 13 refl (LL.lawful T.the-type T′.the-laws 𝓤 H A W .typed t _ is-t .0)) $
-        nothing ! $ use1 W (raw (Counted 𝓤 H A at-mem run .pre (to-counted 𝓤 H A at-mem run t st r (mach t) p w))) (goes-counted 𝓤 H A at-mem run t st r (mach t) p w W is-t is-st is-r) $
-        calls-at ! fm (Counted 𝓤 H A at-mem run) known-counted (to-counted 𝓤 H A at-mem run t st r (mach t) p w) (and-then ! (holds ! 8 10 refl) (and-then ! (holds ! 8 10 refl) (and-then ! (holds ! 8 10 refl) (no-more !)))) (λ w₂.
+        nothing ! $ use1 W (raw (Tallying 𝓤 H A at-mem run .pre (to-counted 𝓤 H A at-mem run t st r (mach t) p w))) (goes-counted 𝓤 H A at-mem run t st r (mach t) p w W is-t is-st is-r) $
+        calls-at ! fm (Tallying 𝓤 H A at-mem run) known-counted (to-counted 𝓤 H A at-mem run t st r (mach t) p w) (and-then ! (holds ! 8 10 refl) (and-then ! (holds ! 8 10 refl) (and-then ! (holds ! 8 10 refl) (no-more !)))) (λ w₂.
         use1 W (later (some (λ (u : Tally). (‵ ftrue ⊛ ‵ (T.the-row .own u (w₂ ∷ []))) ⊛ raw (ensured 𝓤 H A counted.ended (counted.clauses 𝓤 H A at-mem run) tt (t, (st, (r, tt))) tt u)))) (id⊢ 𝓤 _) $ await ! tt $ pick ! (λ u.
         split ! $ move ! (1 ∷ []) $ use1 W (raw (fact 𝓤 (u ≡ tallied t (st .state .used) (verdict r)))) (counted-of 𝓤 H A at-mem run t st r u) $ heard ! (u ≡ tallied t (st .state .used) (verdict r)) (λ f. split ! $ drop ! $
         -- [what the new tally owns; the tally's cell; the open borrow; obs; auth; the answer; the room's token; the last list; _10; …]
@@ -173,7 +173,7 @@ module _ {M : Type 1} (𝓤 : URA M) (H : Heap 𝓤) (A : Atoms 𝓤) (W : Given
         keep ! (4 ∷ 2 ∷ 5 ∷ 0 ∷ 1 ∷ 3 ∷ []) $ by ! (exits r w (zs .1 .0) u (e, f) l))))))))))))))))))))))))
 
 module _ {M : Type 1} (𝓤 : URA M) (H : Heap 𝓤) (A : Atoms 𝓤) (W : Given 𝓤 H A) (at-mem : Memory → SProp 𝓤) (run : Routine → Fun 𝓤) where
-  late-walks : (C : Calls 𝓤 H) (Λ : Loops 𝓤 H) → FmC 𝓤 H (W .laws) C → Triple 𝓤 (C #trace·Trace·late) (Core 𝓤 H A at-mem run) → Triple 𝓤 (C #tally·counted) (Counted 𝓤 H A at-mem run)
+  late-walks : (C : Calls 𝓤 H) (Λ : Loops 𝓤 H) → FmC 𝓤 H (W .laws) C → Triple 𝓤 (C #trace·Trace·late) (Core 𝓤 H A at-mem run) → Triple 𝓤 (C #tally·counted) (Tallying 𝓤 H A at-mem run)
       → Walks 𝓤 H A late.ended stayed (WpFn 𝓤 H C Λ code.function) (late.clauses 𝓤 H A at-mem run)
   late-walks C Λ fm known-core known-counted = walked 𝓤 H A late.ended stayed (late.clauses 𝓤 H A at-mem run) (WpFn 𝓤 H C Λ code.function)
       (λ κs. (LL.vals S.the-type S′.the-laws, (slice-vals, (uint-vals w32, (sint-vals w32, (ptr-vals, tt)))))) (λ κs. (LL.tells S.the-type S′.the-laws, (mut-slice-tells (named 0) (κs .0) i64, (uint-tells w32, (sint-tells w32, (mut-tells (named 1) (κs .1 .0) T.the-row, tt))))))
@@ -181,7 +181,7 @@ module _ {M : Type 1} (𝓤 : URA M) (H : Heap 𝓤) (A : Atoms 𝓤) (W : Given
       (walk 𝓤 H A W at-mem run (κs .0) (κs .1 .0) (qs .0) (qs .1 .0) (a .0) (a .1 .0 .ptr .0) (a .1 .0 .ptr .1) (a .1 .0 .name) (a .1 .0 .now) (a .1 .1 .0) (a .1 .1 .1 .0) (a .1 .1 .1 .1 .0 .ptr .0) (a .1 .1 .1 .1 .0 .ptr .1) (a .1 .1 .1 .1 .0 .name) (a .1 .1 .1 .1 .0 .now) (are .0) (are .1 .1 .0 .1) (are .1 .1 .1 .0 .1) C Λ fm known-core known-counted (are .1 .0 .0 .1)))
 
 late-meets : {M : Type 1} (𝓤 : URA M) (H : Heap 𝓤) (A : Atoms 𝓤) → Given 𝓤 H A → (at-mem : Memory → SProp 𝓤) (run : Routine → Fun 𝓤) (𝓣 : Tables 𝓤 H)
-    → Triple 𝓤 (𝓣 .C #trace·Trace·late) (Core 𝓤 H A at-mem run) → Triple 𝓤 (𝓣 .C #tally·counted) (Counted 𝓤 H A at-mem run)
+    → Triple 𝓤 (𝓣 .C #trace·Trace·late) (Core 𝓤 H A at-mem run) → Triple 𝓤 (𝓣 .C #tally·counted) (Tallying 𝓤 H A at-mem run)
     → Meets 𝓤 H A late.signature (WpFn 𝓤 H (𝓣 .C) (𝓣 .Λ) code.function) (late.spec 𝓤 H A at-mem run)
 late-meets 𝓤 H A W at-mem run 𝓣 known-core known-counted =
     walk-meets 𝓤 H A late.ended stayed W
@@ -195,4 +195,4 @@ late-spec 𝓤 H 𝓜 𝓖 𝓡 =
     (tables 𝓤 H 𝓜 𝓡 code.env .C) (tables 𝓤 H 𝓜 𝓡 code.env .Λ) #tally·late code.function (code.unfolded 𝓤 H 𝓜 𝓡)
     (late-meets 𝓤 H (𝓖 .A) (givenOf 𝓤 H 𝓜 𝓖) (𝓜 .mem) (𝓡 .run) (tablesOf 𝓤 H 𝓜 (tables 𝓤 H 𝓜 𝓡 code.env))
     (cited 𝓤 H (Core 𝓤 H (𝓖 .A) (𝓜 .mem) (𝓡 .run)) 𝓜 𝓡 code.env #trace·Trace·late core-def.routine code.calls-trace·Trace·late (core-thm.met 𝓤 H 𝓜 𝓖 𝓡))
-    (cited 𝓤 H (Counted 𝓤 H (𝓖 .A) (𝓜 .mem) (𝓡 .run)) 𝓜 𝓡 code.env #tally·counted counted-def.routine code.calls-tally·counted (counted-thm.met 𝓤 H 𝓜 𝓖 𝓡)))
+    (cited 𝓤 H (Tallying 𝓤 H (𝓖 .A) (𝓜 .mem) (𝓡 .run)) 𝓜 𝓡 code.env #tally·counted counted-def.routine code.calls-tally·counted (counted-thm.met 𝓤 H 𝓜 𝓖 𝓡)))

@@ -1,41 +1,26 @@
 -- `calls::command::bits` meets its contract: what is cast is not below 0.
-use Prim.Native.Nat.{_≤_}
 use borrow.Author.Needs.{needs}
-use lib.Dec.{T}
-use lib.IntN.{ℤ, negsuc, natAbs, _-ℤ_}
-use lib.Signed.{nonNeg}
-use mir.Syntax.{w64}
-use mir.Val.{Fits}
 use mir.Facts.{toZ-ofZ}
-use Rattle.rule.proofs.Whole.{whole, difference, one-side}
-use Rattle.calls.proofs.Complement.{turned-fits, cast}
+use Rattle.rule.proofs.Whole.{whole}
+use Rattle.rule.proofs.Signed.{straight-casts, turned-casts, turned-fits}
 use Rattle.calls.proofs.command.bits.Statement.{statement}
 use Rattle.calls.proofs.command.bits.Tie as tie
 
 sub-result : tie.Need-sub-result
-sub-result c = let f = c .before .fits .number in rw (toZ-ofZ f) (turned-fits w64 (c .before .args .number) f)
-
-turned : (c : tie.Then1) → let z = negsuc 0 -ℤ c .before .args .number in T (nonNeg z) × Fits w64 (natAbs z)
-turned c =
-    let z = c .before .args .number in
-    let f = c .before .fits .number in
-    cast (negsuc 0 -ℤ z) (turned-fits w64 z f)
-    (omega (whole, rw (toZ-ofZ f) at (c .if1 .taken), difference (negsuc 0) z, one-side z, one-side (negsuc 0 -ℤ z)))
+sub-result c = let f = c .before .fits .number in rw (toZ-ofZ f) (turned-fits _ f)
 
 cast-result : tie.Need-cast-result
 cast-result c =
     let f = c .before .fits .number in
-    rw (toZ-ofZ f, toZ-ofZ (turned-fits w64 (c .before .args .number) f)) (turned c)
+    rw (toZ-ofZ f, toZ-ofZ (turned-fits _ f)) (turned-casts _ f (rw (toZ-ofZ f) at (c .if1 .taken)))
 
 sub-result-2 : tie.Need-sub-result-2
 sub-result-2 c =
     let f = c .before .fits .number in
-    rw (toZ-ofZ f, toZ-ofZ (turned-fits w64 (c .before .args .number) f)) (omega (whole, turned c .1))
+    rw (toZ-ofZ f, toZ-ofZ (turned-fits _ f)) (omega (whole, turned-casts _ f (rw (toZ-ofZ f) at (c .if1 .taken)) .1))
 
 cast-result-2 : tie.Need-cast-result-2
-cast-result-2 c =
-    let f = c .before .fits .number in
-    rw (toZ-ofZ f) (cast (c .before .args .number) f (omega (whole, rw (toZ-ofZ f) at (c .if1 .left), one-side (c .before .args .number))))
+cast-result-2 c = let f = c .before .fits .number in rw (toZ-ofZ f) (straight-casts _ f (rw (toZ-ofZ f) at (c .if1 .left)))
 
 returns : tie.Need-returns
 returns c = search needs

@@ -1,4 +1,4 @@
---
+-- `room::check::all_zero` meets its contract. The loop's invariant: the numbers from `i` on decide.
 use Prim.Native.Nat.{_-_, _≤_}
 use mathlib.Core.Path.{_≡_, refl, sym, ap, _∙_}
 use native.Mathlib.Omega.{arith}

@@ -9,6 +9,7 @@ use Rattle.rule.specs.Numbers.{slotWidth}
 use Rattle.rule.specs.Room.{allOf, restZero, roomy}
 use Rattle.rule.specs.Table.{limit, needed}
 use Rattle.rule.proofs.Ruling.{flipped}
+use Rattle.settings.proofs.Bounds.{mostAllowed}
 use Rattle.room.proofs.Scanning.{scanned}
 use Rattle.room.proofs.Clauses.{Limits, limits, sound-tests, unsound}
 use borrow.Author.Needs.{needs}
@@ -68,7 +69,7 @@ returns-5 c =
 -- the slots in use are among those needed
 spare : (c : tie.Else5)
     → let a = c .before .before .before .before .before .before .before .before .before .before .before .before .args in
-    (a .s .used ≤ 768) × (a .s .used ≤ limit (a .s .settings) (a .s .settings .gaps)) × (slotWidth * needed (a .s .settings) ≤ length (a .room .now))
+    (a .s .used ≤ mostAllowed) × (a .s .used ≤ limit (a .s .settings) (a .s .settings .gaps)) × (slotWidth * needed (a .s .settings) ≤ length (a .room .now))
 spare c =
     let four = c .before .before .before in
     omega (arith, bounded (four .before .before), c .before .before .limit .ensures, c .if5 .left, four .before .needed .ensures, four .if4 .left)

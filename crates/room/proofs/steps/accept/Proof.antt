@@ -1,4 +1,4 @@
--- `steps::accept` meets its contract.
+-- `room::steps::accept` meets its contract.
 use borrow.Author.Needs.{needs}
 use native.Mathlib.Omega.{arith}
 use native.Mathlib.Numerals.{add-one}

@@ -1,4 +1,4 @@
--- `steps::settle` meets its contract. The loop's invariant: the buckets that are left settle to the same table.
+-- `room::steps::settle` meets its contract. The loop's invariant: the buckets that are left settle to the same table.
 use native.Mathlib.Omega.{arith}
 use Rattle.room.proofs.Merges.{Merged, merged-end, merged-same-length, merged-place, merged-start, merged-step}
 use Rattle.room.proofs.steps.settle.Statement.{statement}

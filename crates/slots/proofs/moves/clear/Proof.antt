@@ -1,4 +1,4 @@
--- `moves::clear` meets its contract. The loop's invariant: from `from` up to `i` there are zeros, the rest is as it was.
+-- `slots::moves::clear` meets its contract. The loop's invariant: from `from` up to `i` there are zeros, the rest is as it was.
 use Prim.Native.Nat.{_-_}
 use native.Mathlib.Omega.{arith}
 use Rattle.rule.specs.Room.{zeros}

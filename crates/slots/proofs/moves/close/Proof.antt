@@ -1,4 +1,4 @@
--- `moves::close` meets its contract. The loop's invariant: from `from` up to `i` stand the numbers of one slot later, the rest is as it was.
+-- `slots::moves::close` meets its contract. The loop's invariant: from `from` up to `i` stand the numbers of one slot later, the rest is as it was.
 use Prim.Native.Nat.{_+_, _-_}
 use mathlib.Core.Path.{_∙_}
 use native.Mathlib.Omega.{arith}

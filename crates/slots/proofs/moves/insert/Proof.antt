@@ -1,4 +1,4 @@
--- `moves::insert` meets its contract.
+-- `slots::moves::insert` meets its contract.
 use borrow.Author.Needs.{needs}
 use Rattle.slots.proofs.Laying.{inserted}
 use Rattle.slots.proofs.moves.insert.Statement.{statement}

@@ -1,4 +1,4 @@
--- `moves::merge` meets its contract.
+-- `slots::moves::merge` meets its contract.
 use Prim.Native.Nat.{_+_}
 use native.Mathlib.Omega.{arith}
 use borrow.Author.Needs.{needs}

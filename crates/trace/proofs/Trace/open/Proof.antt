@@ -7,7 +7,7 @@ use mathlib.Core.Path.{_≡_, sym, _∙_}
 use Rattle.rule.specs.Calls.{kept, traced}
 use Rattle.rule.specs.Room.{flat, laid}
 use Rattle.rule.specs.Table.{needed, readings, runs}
-use Rattle.settings.proofs.Bounds.{needed-small}
+use Rattle.settings.proofs.Bounds.{mostNeeded, needed-small}
 use Rattle.trace.specs.Answers.{answer}
 use Rattle.settings.proofs.Granting.{Granted, admit-grants, admit-refuses, admits}
 use Rattle.trace.proofs.Trace.open.Statement.{statement}
@@ -18,7 +18,7 @@ granted c =
     let a = c .before .before .before .before .before .args in
     admit-grants (kept (a .named)) (a .room .now) (c .needed .given .0 .0) (rw (c .before .before .before .before .kept .ensures) at (sym (c .before .before .admit .ensures) ∙ c .needed .given .1))
 
-small : (c : tie.After-needed) → c .needed .given .0 .0 ≤ 769
+small : (c : tie.After-needed) → c .needed .given .0 .0 ≤ mostNeeded
 small c =
     let g = granted c in
     omega (arith, g .1, needed-small (kept (c .before .before .before .before .before .args .named)) (g .0 .steps) (g .0 .gaps))

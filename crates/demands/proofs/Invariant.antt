@@ -27,7 +27,7 @@ unfoldable pub Joined : Kind → ℕ → Type 0
 Joined InOrder runs = runs ≤ 1
 Joined Late runs = Unit {0}
 
-pub record Kept (kind : Kind) (rs : List Reading) (t : Table) : Type 0 where
+pub record Invariant (kind : Kind) (rs : List Reading) (t : Table) : Type 0 where
   pub ordered : Ordered 0 t
   pub covers : (tick : ℕ) → holders tick t ≡ times tick rs
   pub each : readings t ≡ length rs
@@ -63,25 +63,25 @@ module _ (rs : List Reading) (a b : Bucket) (touching : neighbours a b ≡ true)
             (λ g. let inner = y .bounds r m (counted (holds (r .tick) b) (omega (arith, union-holds a b touching (r .tick), ap one g, ap one h))) in omega whole);
       }
 
-pub kept-extremes : {kind : Kind} {rs : List Reading} (l : Table) (a b : Bucket) (r : Table) → neighbours a b ≡ true → Kept kind rs (l ++ (a ∷ b ∷ r)) → Extremes rs (union a b)
-kept-extremes {kind} {rs} l a b r touching k =
+pub pair-extremes : {kind : Kind} {rs : List Reading} (l : Table) (a b : Bucket) (r : Table) → neighbours a b ≡ true → Invariant kind rs (l ++ (a ∷ b ∷ r)) → Extremes rs (union a b)
+pair-extremes {kind} {rs} l a b r touching k =
     union-extremes rs a b touching (k .extremes a (Memᴰ·append-right l (List·Memᴰ·head refl))) (k .extremes b (Memᴰ·append-right l (List·Memᴰ·tail (List·Memᴰ·head refl))))
 
-merged-kept : {kind : Kind} {rs : List Reading} (l : Table) (a b : Bucket) (r : Table) → neighbours a b ≡ true → Kept kind rs (l ++ (a ∷ b ∷ r)) → Kept kind rs (l ++ (union a b ∷ r))
-merged-kept {kind} {rs} l a b r touching k =
+merged-invariant : {kind : Kind} {rs : List Reading} (l : Table) (a b : Bucket) (r : Table) → neighbours a b ≡ true → Invariant kind rs (l ++ (a ∷ b ∷ r)) → Invariant kind rs (l ++ (union a b ∷ r))
+merged-invariant {kind} {rs} l a b r touching k =
     record {
       ordered = merged-ordered a b touching 0 l r (k .ordered);
       covers = λ tick. merged-holders a b touching tick l r ∙ k .covers tick;
       each = merged-readings a b touching l r ∙ k .each;
       extremes = λ x m.
-          ⊎-elim (λ e. subst (Extremes rs) (sym e) (kept-extremes l a b r touching k)) (k .extremes x) (merged-member a b touching x l r m);
+          ⊎-elim (λ e. subst (Extremes rs) (sym e) (pair-extremes l a b r touching k)) (k .extremes x) (merged-member a b touching x l r m);
       true-runs = merged-runs a b touching l r ∙ k .true-runs;
       joined = subst (Joined kind) (sym (merged-runs a b touching l r)) (k .joined);
     }
 
-pub merge-kept : {kind : Kind} {rs : List Reading} {t u : Table} → Merge t u → Kept kind rs t → Kept kind rs u
-merge-kept {kind} {rs} m k =
-    subst (Kept kind rs) (sym (m .leaves)) (merged-kept (m .left) (m .first) (m .second) (m .right) (m .touching) (subst (Kept kind rs) (m .stands) k))
+pub merge-invariant : {kind : Kind} {rs : List Reading} {t u : Table} → Merge t u → Invariant kind rs t → Invariant kind rs u
+merge-invariant {kind} {rs} m k =
+    subst (Invariant kind rs) (sym (m .leaves)) (merged-invariant (m .left) (m .first) (m .second) (m .right) (m .touching) (subst (Invariant kind rs) (m .stands) k))
 
 -- ---- a reading
 
@@ -104,12 +104,12 @@ joined-with InOrder (a ∷ t) tick v o e j =
     let touches : 1 ≤ heldBefore tick (a ∷ t) = subst (λ (n : ℕ). 1 ≤ heldBefore n (a ∷ t)) (sym e) (next-touches 0 a t o) in
     omega (arith, insert-runs tick v (a ∷ t) o (takes-free InOrder tick (a ∷ t) o e))
 
-module _ (kind : Kind) (rs : List Reading) (t : Table) (kept : Kept kind rs t) (r : Reading) (takes : Takes kind t (r .tick)) where
+module _ (kind : Kind) (rs : List Reading) (t : Table) (invariant : Invariant kind rs t) (r : Reading) (takes : Takes kind t (r .tick)) where
   free : holders (r .tick) t ≡ 0
-  free = takes-free kind (r .tick) t (kept .ordered) takes
+  free = takes-free kind (r .tick) t (invariant .ordered) takes
 
   fresh : times (r .tick) rs ≡ 0
-  fresh = sym (kept .covers (r .tick)) ∙ free
+  fresh = sym (invariant .covers (r .tick)) ∙ free
 
   new-inside : Inside (r ∷ rs) (single (r .tick) (r .value)) (r .value)
   new-inside =
@@ -141,7 +141,7 @@ module _ (kind : Kind) (rs : List Reading) (t : Table) (kept : Kept kind rs t) (
 
   older-extremes : (b : Bucket) → List·Memᴰ b t → Extremes (r ∷ rs) b
   older-extremes b m =
-      let x = kept .extremes b m in
+      let x = invariant .extremes b m in
       record {
         least = older (x .least);
         largest = older (x .largest);
@@ -150,15 +150,15 @@ module _ (kind : Kind) (rs : List Reading) (t : Table) (kept : Kept kind rs t) (
             (λ k. x .bounds q k h) (List·Memᴰ·cases-cons n);
       }
 
-  pub reading-kept : Kept kind (r ∷ rs) (insert (single (r .tick) (r .value)) t)
+  pub reading-invariant : Invariant kind (r ∷ rs) (insert (single (r .tick) (r .value)) t)
   unfolding times
-  reading-kept =
+  reading-invariant =
       record {
-        ordered = insert-ordered (r .tick) (r .value) 0 t (kept .ordered) (omega arith) free;
-        covers = λ tick. omega (arith, insert-holders tick (single (r .tick) (r .value)) t, single-holds tick (r .tick) (r .value), kept .covers tick);
-        each = omega (arith, insert-readings (single (r .tick) (r .value)) t, kept .each);
+        ordered = insert-ordered (r .tick) (r .value) 0 t (invariant .ordered) (omega arith) free;
+        covers = λ tick. omega (arith, insert-holders tick (single (r .tick) (r .value)) t, single-holds tick (r .tick) (r .value), invariant .covers tick);
+        each = omega (arith, insert-readings (single (r .tick) (r .value)) t, invariant .each);
         extremes = λ b m. ⊎-elim (λ e. subst (Extremes (r ∷ rs)) (sym e) new-extremes) (older-extremes b) (insert-member b (single (r .tick) (r .value)) t m);
         true-runs =
-            omega (arith, insert-runs (r .tick) (r .value) t (kept .ordered) free, runs-with r rs fresh t (kept .covers) (λ tick. held-once 0 tick t (kept .ordered)), kept .true-runs);
-        joined = joined-with kind t (r .tick) (r .value) (kept .ordered) takes (kept .joined);
+            omega (arith, insert-runs (r .tick) (r .value) t (invariant .ordered) free, runs-with r rs fresh t (invariant .covers) (λ tick. held-once 0 tick t (invariant .ordered)), invariant .true-runs);
+        joined = joined-with kind t (r .tick) (r .value) (invariant .ordered) takes (invariant .joined);
       }

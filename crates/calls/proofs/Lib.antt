@@ -1,2 +1,0 @@
--- The laws that the functions' proofs cite.
-pub mod Complement

@@ -27,7 +27,7 @@ fn bucket(t: Trace, room: &[i64], i: usize, before: Shown) -> Shown {
         return before;
     };
     let mut out = [0u8; 64];
-    let n = text::put_row(&mut out, 0, b);
+    let n = printing::put_row(&mut out, 0, b);
     let written = write(&out, n);
     Shown {
         worst: larger(before.worst, b.error()),
@@ -49,13 +49,13 @@ fn listed(t: Trace, room: &[i64]) -> bool {
         }
     }
     let mut out = [0u8; 64];
-    let n = text::put_total(&mut out, 0, s.readings, s.used, shown.worst);
+    let n = printing::put_total(&mut out, 0, s.readings, s.used, shown.worst);
     write(&out, n)
 }
 
 fn refused(line: usize, number: u32) -> bool {
     let mut out = [0u8; 64];
-    let n = text::put_refused(&mut out, 0, line, number);
+    let n = printing::put_refused(&mut out, 0, line, number);
     write(&out, n)
 }
 

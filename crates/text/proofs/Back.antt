@@ -19,11 +19,11 @@ use Rattle.rule.proofs.Whole.{by-test, one-side}
 use Rattle.rule.proofs.Whole.{whole as wholes}
 use Rattle.text.specs.declared.Number.{Number}
 use Rattle.text.specs.declared.Line.{Line}
-use Rattle.text.specs.Signs.{lateWord, nine, nought, space, stepsWord}
-use Rattle.text.specs.Reading.{alone, digits, digitsAfter, firstSpace, isDigit, late, lineOf, negated, number, pair, same, spaced, steps}
-use Rattle.text.specs.Printing.{decimal, digit, whole}
+use Rattle.printing.specs.Signs.{nine, nought, space}
+use Rattle.text.specs.Reading.{alone, digits, digitsAfter, firstSpace, isDigit, late, lateWord, lineOf, negated, number, pair, same, spaced, steps, stepsWord}
+use Rattle.printing.specs.Printing.{decimal, digit, whole}
 use Rattle.text.proofs.Lines.{digit-range, not-whole, number-plain}
-use Rattle.text.proofs.Texts.{last-digit, one-digit, one-digit-more, short, whole-short}
+use Rattle.printing.proofs.Texts.{last-digit, one-digit, one-digit-more, short, whole-short}
 
 -- ---- digits
 

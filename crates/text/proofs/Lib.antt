@@ -1,6 +1,5 @@
 -- Laws that belong to no one function.
 pub mod Lines
-pub mod Texts
 pub mod Back
 pub mod ByHand
 pub mod OneOutcome

@@ -20,7 +20,7 @@ use Rattle.rule.proofs.Signed.{read}
 use Rattle.rule.proofs.Whole.{by-test, whole, down, one-side}
 use Rattle.text.specs.declared.Number.{Number}
 use Rattle.text.specs.Reading.{digits, digitsAfter, firstSpace, isDigit, negated, number, same}
-use Rattle.text.specs.Signs.{minus, nine, nought, space}
+use Rattle.printing.specs.Signs.{minus, nine, nought, space}
 
 both : (c d : Bool) → (c && d) ≡ true → (c ≡ true) × (d ≡ true)
 both true d h = (refl, h)

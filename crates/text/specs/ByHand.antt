@@ -1,14 +1,12 @@
--- Lines and the listing worked by hand: those of document 01, and lines at the edges of what can be read.
+-- Lines worked by hand: those of document 01, and lines at the edges of what can be read.
 use Prim.Native.String.{String}
 use mathlib.Core.Path.{_≡_}
 use mathlib.Core.List.{List, [], _∷_, map}
 use lib.IntN.{pos, negsuc}
-use Rattle.rule.specs.ByHand.{bucket}
+use Rattle.printing.specs.Signs.{ascii}
 use Rattle.text.specs.declared.Line.{Line}
 use Rattle.text.specs.declared.Line.the-variants.{Steps, Late, Alone, Pair, Unreadable}
-use Rattle.text.specs.Signs.{ascii}
 use Rattle.text.specs.Reading.{lineOf}
-use Rattle.text.specs.Printing.{listing, refused}
 
 unfoldable pub lines : List (String × Line)
 lines =
@@ -44,7 +42,3 @@ lines =
 
 pub record ByHand : Type 0 where
   pub meanings : map (λ e. lineOf (ascii (e .0))) lines ≡ map (λ e. e .1) lines
-  pub listed : listing (bucket 0 3 (pos 1) (pos 4) ∷ bucket 3 2 (pos 8) (pos 9) ∷ bucket 5 2 (pos 2) (pos 3) ∷ []) ≡ ascii "0 3 1 4 2\n3 2 8 9 8\n5 2 2 3 2\ntotal 7 3 2\n"
-  pub lowest : listing (bucket 16777215 1 (negsuc 2147483647) (negsuc 2147483647) ∷ []) ≡ ascii "16777215 1 -2147483648 -2147483648 -2147483648\ntotal 1 1 0\n"
-  pub none : listing [] ≡ ascii "total 0 0 0\n"
-  pub refusal : refused 10 14 ≡ ascii "refused 10 14\n"

@@ -1,5 +1,3 @@
--- What a line of the input means, and what the listing of a table is, byte by byte.
-pub mod Signs
+-- What a line of the input means.
 pub mod Reading
-pub mod Printing
 pub mod ByHand

@@ -6,9 +6,9 @@ use lib.Dec.{eqb, leb, ltb}
 use lib.IntN.{pos, negℤ, natAbs}
 use lib.ListN.{length, take, drop}
 use Rattle.rule.specs.Room.{signed, unsigned}
+use Rattle.printing.specs.Signs.{ascii, space, minus, nought, nine}
 use Rattle.text.specs.declared.Number.{Number}
 use Rattle.text.specs.declared.Line.{Line}
-use Rattle.text.specs.Signs.{space, minus, nought, nine, stepsWord, lateWord}
 
 -- a line has at most so many bytes
 abbrev pub lineMost : ℕ
@@ -17,6 +17,13 @@ lineMost = 64
 -- a number has at most so many digits
 abbrev pub digitsMost : ℕ
 digitsMost = 10
+
+-- the words that name B and K
+abbrev pub stepsWord : List ℕ
+stepsWord = ascii "steps"
+
+abbrev pub lateWord : List ℕ
+lateWord = ascii "late"
 
 -- ---- numbers
 

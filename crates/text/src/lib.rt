@@ -1,12 +1,7 @@
-// Lines and numbers as bytes: what a line of the input means, and how the lines of the listing are printed. What is right stands in specs/.
+// What a line of the input means, its bytes read. What is right stands in specs/.
 ghost use mathlib.Core.Path.{_≡_};
-ghost use mathlib.Core.List.{[], _∷_, _++_};
-ghost use Prim.Native.Nat.{_+_, _≤_, _<_};
-ghost use lib.ListN.{length};
 ghost use Rattle.rule.specs.Room.{signed, unsigned};
 ghost use Rattle.text.specs.Reading.{alone, digits, firstSpace, isDigit, late, lineOf, number, pair, same, spaced, steps};
-ghost use Rattle.text.specs.Printing.{Printed, decimal, lineRoom, refused, row, total, whole};
-use rule::Bucket;
 
 // What bytes stand for as a number, in any range.
 pub enum Number {
@@ -195,89 +190,4 @@ pub fn parse_line(line: &[u8]) -> Line
         return alone(read_number(line));
     }
     spaced(&line[0..at], &line[at + 1..])
-}
-
-fn put_byte(out: &mut [u8], at: usize, b: u8) -> usize
-    requires { ⌜ at < length (now out) ⌝ }
-    ensures { λ r. ⌜ Printed (now (out .entry)) at (b ∷ []) r (now (out .exit)) ⌝ }
-{
-    out[at] = b;
-    at + 1
-}
-
-fn put_bytes(out: &mut [u8], at: usize, s: &[u8]) -> usize
-    requires { ⌜ at + length (now s) ≤ length (now out) ⌝ }
-    ensures { λ r. ⌜ Printed (now (out .entry)) at (now (s .entry)) r (now (out .exit)) ⌝ }
-{
-    let mut i = 0;
-    while i < s.len() {
-        out[at + i] = s[i];
-        i += 1;
-    }
-    at + i
-}
-
-// The digits before the last, then the last.
-fn put_decimal(out: &mut [u8], at: usize, n: usize) -> usize
-    requires { ⌜ at + length (decimal n) ≤ length (now out) ⌝ }
-    ensures { λ r. ⌜ Printed (now (out .entry)) at (decimal n) r (now (out .exit)) ⌝ }
-{
-    if n < 10 {
-        return put_byte(out, at, 48 + n as u8);
-    }
-    let next = put_decimal(out, at, n / 10);
-    put_byte(out, next, 48 + (n % 10) as u8)
-}
-
-fn put_number(out: &mut [u8], at: usize, n: usize, end: u8) -> usize
-    requires { ⌜ at + length (decimal n) < length (now out) ⌝ }
-    ensures { λ r. ⌜ Printed (now (out .entry)) at (decimal n ++ (end ∷ [])) r (now (out .exit)) ⌝ }
-{
-    let next = put_decimal(out, at, n);
-    put_byte(out, next, end)
-}
-
-fn put_whole(out: &mut [u8], at: usize, z: i32, end: u8) -> usize
-    requires { ⌜ at + length (whole z) < length (now out) ⌝ }
-    ensures { λ r. ⌜ Printed (now (out .entry)) at (whole z ++ (end ∷ [])) r (now (out .exit)) ⌝ }
-{
-    if z < 0 {
-        let next = put_byte(out, at, 45);
-        put_number(out, next, (-(z as i64)) as usize, end)
-    } else {
-        put_number(out, at, z as usize, end)
-    }
-}
-
-// The row of a bucket.
-pub fn put_row(out: &mut [u8], at: usize, b: Bucket) -> usize
-    requires { ⌜ at + lineRoom ≤ length (now out) ⌝ }
-    ensures { λ r. ⌜ Printed (now (out .entry)) at (row b) r (now (out .exit)) ⌝ }
-{
-    let count = put_number(out, at, b.start as usize, 32);
-    let least = put_number(out, count, b.count as usize, 32);
-    let largest = put_whole(out, least, b.least, 32);
-    let level = put_whole(out, largest, b.largest, 32);
-    put_whole(out, level, b.level(), 10)
-}
-
-// The last line.
-pub fn put_total(out: &mut [u8], at: usize, readings: usize, buckets: usize, worst: u32) -> usize
-    requires { ⌜ at + lineRoom ≤ length (now out) ⌝ }
-    ensures { λ r. ⌜ Printed (now (out .entry)) at (total readings buckets worst) r (now (out .exit)) ⌝ }
-{
-    let first = put_bytes(out, at, b"total ");
-    let second = put_number(out, first, readings, 32);
-    let third = put_number(out, second, buckets, 32);
-    put_number(out, third, worst as usize, 10)
-}
-
-// The line of a refusal: the refused line, from 1, and the refusal's number.
-pub fn put_refused(out: &mut [u8], at: usize, line: usize, number: u32) -> usize
-    requires { ⌜ at + lineRoom ≤ length (now out) ⌝ }
-    ensures { λ r. ⌜ Printed (now (out .entry)) at (refused line number) r (now (out .exit)) ⌝ }
-{
-    let first = put_bytes(out, at, b"refused ");
-    let second = put_number(out, first, line, 32);
-    put_number(out, second, number as usize, 10)
 }

@@ -11,7 +11,7 @@ use lib.ListN.{drop, getD, length}
 use mir.Syntax.{w64}
 use mir.Facts.{toZ-pos}
 use Rattle.text.specs.declared.Number.{Number}
-use Rattle.text.specs.Signs.{nine, nought}
+use Rattle.printing.specs.Signs.{nine, nought}
 use Rattle.text.specs.Reading.{digits, digitsAfter, isDigit}
 use Rattle.text.proofs.Lines.{digit-range, digits-below, digits-done, digits-next, digits-stop, one-digit-more}
 use Rattle.text.proofs.digits.Statement.{statement}

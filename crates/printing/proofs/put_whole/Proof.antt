@@ -1,4 +1,4 @@
--- `text::put_whole` meets its contract: behind the minus sign stands the size, which 64 bits hold.
+-- `printing::put_whole` meets its contract: behind the minus sign stands the size, which 64 bits hold.
 use mathlib.Core.Path.{_≡_, ap}
 use mathlib.Core.Bool.{true, false}
 use native.Mathlib.Omega.{arith}
@@ -12,9 +12,9 @@ use mir.Val.{SFits, ofZ, toZ}
 use mir.Facts.{fits-natAbs, toZ-ofZ}
 use Rattle.rule.proofs.Signed.{widened, widens}
 use Rattle.rule.proofs.Whole.{whole, abs, difference, one-side}
-use Rattle.text.proofs.Texts.{below-zero, not-below-zero, then}
-use Rattle.text.proofs.put_whole.Statement.{statement}
-use Rattle.text.proofs.put_whole.Tie as tie
+use Rattle.printing.proofs.Texts.{below-zero, not-below-zero, then}
+use Rattle.printing.proofs.put_whole.Statement.{statement}
+use Rattle.printing.proofs.put_whole.Tie as tie
 
 opposite-fits : (z : ℤ) → SFits w32 z → SFits w64 (pos 0 -ℤ z)
 opposite-fits z h = omega (whole, difference (pos 0) z, one-side (pos 0 -ℤ z))

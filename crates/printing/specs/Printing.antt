@@ -10,7 +10,7 @@ use lib.Seq.{sets}
 use Rattle.rule.specs.declared.Bucket.{Bucket}
 use Rattle.rule.specs.Bucket.{level}
 use Rattle.rule.specs.Table.{Table, readings, worst}
-use Rattle.text.specs.Signs.{lineFeed, space, minus, nought, totalWord, refusedWord}
+use Rattle.printing.specs.Signs.{lineFeed, space, minus, nought, totalWord, refusedWord}
 
 -- the digit of a number below ten
 abbrev pub digit : ℕ → ℕ

@@ -1,4 +1,4 @@
--- `text::put_row` meets its contract: each field leaves room for the others.
+-- `printing::put_row` meets its contract: each field leaves room for the others.
 use Prim.Native.Nat.{_+_, _≤_}
 use mathlib.Core.Path.{_≡_}
 use mathlib.Core.List.{append-assoc}
@@ -8,10 +8,10 @@ use lib.ListN.{length}
 use mir.Syntax.{w32}
 use mir.Val.{ofZ, toZ}
 use Rattle.rule.proofs.Signed.{read}
-use Rattle.text.specs.Printing.{decimal, line, row, whole}
-use Rattle.text.proofs.Texts.{field-room, short, then, whole-short}
-use Rattle.text.proofs.put_row.Statement.{statement}
-use Rattle.text.proofs.put_row.Tie as tie
+use Rattle.printing.specs.Printing.{decimal, line, row, whole}
+use Rattle.printing.proofs.Texts.{field-room, short, then, whole-short}
+use Rattle.printing.proofs.put_row.Statement.{statement}
+use Rattle.printing.proofs.put_row.Tie as tie
 
 start-short : (c : tie.After-struct-known) → length (decimal (c .before .before .before .args .b .start)) ≤ 10
 start-short c = short 9 (c .before .before .before .args .b .start) (omega (arith, c .struct-known .given))

@@ -1,13 +1,13 @@
--- `text::put_total` meets its contract: the word and each field leave room for the others.
+-- `printing::put_total` meets its contract: the word and each field leave room for the others.
 use Prim.Native.Nat.{_+_, _≤_}
 use mathlib.Core.List.{append-assoc}
 use native.Mathlib.Omega.{arith}
 use borrow.Author.Needs.{needs}
 use lib.ListN.{length}
-use Rattle.text.specs.Printing.{decimal, line, total}
-use Rattle.text.proofs.Texts.{field-room, room-left, short, then}
-use Rattle.text.proofs.put_total.Statement.{statement}
-use Rattle.text.proofs.put_total.Tie as tie
+use Rattle.printing.specs.Printing.{decimal, line, total}
+use Rattle.printing.proofs.Texts.{field-room, room-left, short, then}
+use Rattle.printing.proofs.put_total.Statement.{statement}
+use Rattle.printing.proofs.put_total.Tie as tie
 
 -- the room behind the word and each field
 after-word : (c : tie.After-put-bytes) → c .put-bytes .result + 58 ≤ length (c .put-bytes .last .0)

@@ -3,15 +3,15 @@ use Prim.Native.Nat.{ℕ, _<_}
 use mathlib.Core.Path.{ap, _∙_}
 use native.Mathlib.Omega.{arith}
 use lib.ListN.{length}
-use Rattle.text.proofs.Texts.{last-digit, one-digit, one-digit-more, then}
+use Rattle.printing.proofs.Texts.{last-digit, one-digit, one-digit-more, then}
 use borrow.Fn.Kinds.{In}
 use borrow.Fn.PlainCycle.{Measures, is, falls, and}
-use Rattle.text.proofs.put_decimal.Reads as own
-use Rattle.text.proofs.put_decimal.Kinds as kinds
-use Rattle.text.proofs.+put_decimal.Lts-put_decimal as lts
-use Rattle.text.proofs.put_byte.Reads as byte
-use Rattle.text.proofs.+put_decimal.{statement}
-use Rattle.text.proofs.+put_decimal.Tie.{close}
+use Rattle.printing.proofs.put_decimal.Reads as own
+use Rattle.printing.proofs.put_decimal.Kinds as kinds
+use Rattle.printing.proofs.+put_decimal.Lts-put_decimal as lts
+use Rattle.printing.proofs.put_byte.Reads as byte
+use Rattle.printing.proofs.+put_decimal.{statement}
+use Rattle.printing.proofs.+put_decimal.Tie.{close}
 
 abbrev μ : Measures 1 kinds.ps ℕ
 μ κs a = a .1 .1 .0

@@ -1,13 +1,13 @@
--- `text::put_bytes` meets its contract: what is left, stored from here on, gives what the whole gives from the start.
+-- `printing::put_bytes` meets its contract: what is left, stored from here on, gives what the whole gives from the start.
 use Prim.Native.Nat.{_+_, _-_, _≤_}
 use mathlib.Core.Path.{_≡_, refl, sym, _∙_}
 use native.Mathlib.Omega.{arith}
 use denote.Ref.{now}
 use lib.ListN.{drop, length, length-set}
 use lib.Seq.{sets}
-use Rattle.text.proofs.Texts.{stores-done, stores-next, stores-start}
-use Rattle.text.proofs.put_bytes.Statement.{statement}
-use Rattle.text.proofs.put_bytes.Tie as tie
+use Rattle.printing.proofs.Texts.{stores-done, stores-next, stores-start}
+use Rattle.printing.proofs.put_bytes.Statement.{statement}
+use Rattle.printing.proofs.put_bytes.Tie as tie
 
 abbrev Inv-loop : tie.InvT-loop
 Inv-loop out₀ at s i₀ out i = (i ≤ length s) × ((length out ≡ length out₀) × (sets out (at + i) (drop i s) ≡ sets out₀ at s))

@@ -19,8 +19,8 @@ use Rattle.rule.specs.Numbers.{word}
 use Rattle.rule.specs.Bucket.{level, middle}
 use Rattle.rule.proofs.Whole.{by-test, middle-down, middle-up, one-side, sum}
 use Rattle.rule.proofs.Whole.{whole as wholes}
-use Rattle.text.specs.Signs.{minus}
-use Rattle.text.specs.Printing.{Printed, decimal, decimalIn, digit, line, lineRoom, refused, row, total, whole}
+use Rattle.printing.specs.Signs.{minus}
+use Rattle.printing.specs.Printing.{Printed, decimal, decimalIn, digit, line, lineRoom, refused, row, total, whole}
 
 sets-append : (l : List ℕ) (i : ℕ) (a b : List ℕ) → sets (sets l i a) (i + length a) b ≡ sets l i (a ++ b)
 sets-append l i [] b = rw (add-zero i)

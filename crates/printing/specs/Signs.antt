@@ -26,12 +26,6 @@ nought = code "0"
 abbrev pub nine : ℕ
 nine = code "9"
 
-abbrev pub stepsWord : List ℕ
-stepsWord = ascii "steps"
-
-abbrev pub lateWord : List ℕ
-lateWord = ascii "late"
-
 abbrev pub totalWord : List ℕ
 totalWord = ascii "total"
 

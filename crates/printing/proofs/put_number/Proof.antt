@@ -1,8 +1,8 @@
--- `text::put_number` meets its contract.
+-- `printing::put_number` meets its contract.
 use borrow.Author.Needs.{needs}
-use Rattle.text.proofs.Texts.{then}
-use Rattle.text.proofs.put_number.Statement.{statement}
-use Rattle.text.proofs.put_number.Tie as tie
+use Rattle.printing.proofs.Texts.{then}
+use Rattle.printing.proofs.put_number.Statement.{statement}
+use Rattle.printing.proofs.put_number.Tie as tie
 
 put-decimal-requires : tie.Need-put-decimal-requires
 put-decimal-requires c κs = search needs

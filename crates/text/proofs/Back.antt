@@ -7,20 +7,24 @@ use native.Mathlib.Numerals.{add-one}
 use native.Mathlib.Omega.{arith}
 use borrow.Author.Tests.{eq-eqb, le-leb, le-ltb, ltb-false, ltb-true, ne-eqb}
 use lib.Dec.{eqb, ltb}
-use lib.IntN.{ℤ, pos, negsuc, natAbs, negℤ}
+use lib.IntN.{ℤ, pos, negsuc, natAbs}
 use lib.ListN.{length, getD, length-append}
 use lib.Seq.{drop-append-add, take-append-seam}
 use lib.Signed.{leZ, ltZ}
 use mir.Syntax.{w32}
 use mir.Val.{SFits}
-use Rattle.rule.specs.Numbers.{half, word}
-use Rattle.rule.specs.Room.{signed, unsigned, within}
-use Rattle.rule.proofs.Whole.{by-test, one-side}
+use Rattle.rule.specs.Numbers.{word}
+use Rattle.rule.specs.Room.{unsigned, within}
+use Rattle.rule.proofs.Ruling.{and-both}
+use Rattle.rule.proofs.Signed.{fits-signed}
+use Rattle.rule.proofs.Whole.{by-test}
 use Rattle.rule.proofs.Whole.{whole as wholes}
 use Rattle.text.specs.declared.Number.{Number}
+use Rattle.text.specs.declared.Unsigned.{Unsigned}
+use Rattle.text.specs.declared.Signed.{Signed}
 use Rattle.text.specs.declared.Line.{Line}
 use Rattle.printing.specs.Signs.{nine, nought, space}
-use Rattle.text.specs.Reading.{alone, digits, digitsAfter, firstSpace, isDigit, late, lateWord, lineOf, negated, number, pair, same, spaced, steps, stepsWord}
+use Rattle.text.specs.Reading.{digits, digitsAfter, firstSpace, isDigit, lateWord, lineOf, negated, number, same, signedField, spaced, stepsWord, unsignedField}
 use Rattle.printing.specs.Printing.{decimal, digit, whole}
 use Rattle.text.proofs.Lines.{digit-range, not-whole, number-plain}
 use Rattle.printing.proofs.Texts.{last-digit, one-digit, one-digit-more, short, whole-short}
@@ -114,17 +118,14 @@ same-first l [] g h = absurd (omega arith)
 same-first [] (x ∷ w) g h = refl
 same-first (b ∷ l) (x ∷ w) g h = rw (ne-eqb b x h)
 
-unsigned-in : (n : ℕ) → n < word → unsigned (pos n) ≡ true
-unfolding within
+unsigned-in : (n : ℕ) → n < word → unsignedField (Number.Whole (pos n)) ≡ Unsigned.Within n
+unfolding within unsignedField
 unsigned-in n h =
-    let low : leZ (pos 0) (pos n) ≡ true = omega wholes in
-    let high : ltZ (pos n) (pos word) ≡ true = omega wholes in rw (low, high)
+    let e : unsigned (pos n) ≡ true = and-both {a = leZ (pos 0) (pos n)} {b = ltZ (pos n) (pos word)} (omega wholes) (omega wholes) in rw e
 
-signed-in : (z : ℤ) → SFits w32 z → signed z ≡ true
-unfolding within
-signed-in z h =
-    let low : leZ (negℤ (pos half)) z ≡ true = omega (wholes, one-side z) in
-    let high : ltZ z (pos half) ≡ true = omega (wholes, one-side z) in rw (low, high)
+signed-in : (z : ℤ) → SFits w32 z → signedField (Number.Whole z) ≡ Signed.Within z
+unfolding signedField
+signed-in z h = rw (fits-signed z h)
 
 size : (z : ℤ) → SFits w32 z → natAbs z < 10 ^ 10
 size (pos n) h = omega arith
@@ -135,22 +136,22 @@ unfolding whole
 decimal-back n h = number-back (pos n) (omega arith)
 
 pub steps-back : (n : ℕ) → n < word → lineOf (stepsWord ++ (space ∷ decimal n)) ≡ Line.Steps n
-unfolding firstSpace spaced same steps
+unfolding firstSpace spaced same
 steps-back n h =
     two-fields stepsWord (decimal n) refl (omega (arith, short 9 n (omega arith))) ∙ rw (decimal-back n h, unsigned-in n h)
 
 pub late-back : (n : ℕ) → n < word → lineOf (lateWord ++ (space ∷ decimal n)) ≡ Line.Late n
-unfolding firstSpace spaced same late
+unfolding firstSpace spaced same
 late-back n h =
     two-fields lateWord (decimal n) refl (omega (arith, short 9 n (omega arith))) ∙ rw (decimal-back n h, unsigned-in n h)
 
 pub alone-back : (z : ℤ) → SFits w32 z → lineOf (whole z) ≡ Line.Alone z
-unfolding lineOf alone
+unfolding lineOf
 alone-back z h =
     rw (le-ltb 64 (length (whole z)) (omega (arith, whole-short z h)), eq-eqb (firstSpace (whole z)) (length (whole z)) (whole-spaceless z), number-back z (size z h), signed-in z h)
 
 pub pair-back : (t : ℕ) (z : ℤ) → t < word → SFits w32 z → lineOf (decimal t ++ (space ∷ whole z)) ≡ Line.Pair t z
-unfolding spaced pair
+unfolding spaced
 pair-back t z h g =
     two-fields (decimal t) (whole z) (decimal-spaceless t) (omega (arith, short 9 t (omega arith), whole-short z g))
     ∙ rw (no-word stepsWord (omega arith) (omega arith), no-word lateWord (omega arith) (omega arith), decimal-back t h, number-back z (size z g), unsigned-in t h, signed-in z g)

@@ -1,30 +1,27 @@
 -- The loops over a line's bytes go on from what is left of them, and numbers stay within 64 bits.
 use Prim.Native.Nat.{ℕ, suc, _+_, _*_, _-_, _≤_, _<_, _^_}
-use mathlib.Core.Path.{_≡_, refl, sym, ap, _∙_}
-use mathlib.Core.Bool.{Bool, true, false, not, _&&_, false≢true}
+use mathlib.Core.Path.{_≡_, refl, ap}
+use mathlib.Core.Bool.{true, false, _&&_, false≢true}
 use mathlib.Core.List.{List, [], _∷_}
 use native.Mathlib.Nat.{pow-le-pow-right, pow-succ'}
 use native.Mathlib.Numerals.{add-one}
 use native.Mathlib.Omega.{arith}
-use borrow.Author.Tests.{eq-eqb, leb-true, ne-eqb, not-false, not-true}
+use borrow.Author.Tests.{eq-eqb, leb-true, ne-eqb}
 use lib.Dec.{T, eqb, leb, lit<}
-use lib.IntN.{ℤ, pos, negsuc, natAbs, negℤ}
+use lib.IntN.{ℤ, pos, negsuc, natAbs}
 use lib.ListN.{length, getD, take, drop, drop-of-length-le, length-drop}
 use lib.Seq.{drop-cons, take-all}
 use lib.Signed.{leZ, ltZ, mag, nonNeg}
 use mir.Syntax.{w32, w64}
-use mir.Val.{Fits, SFits, ofZ, toZ}
-use Rattle.rule.specs.Numbers.{half, word}
-use Rattle.rule.specs.Room.{signed, unsigned, within}
+use mir.Val.{Fits, ofZ, toZ}
+use Rattle.rule.specs.Numbers.{word}
+use Rattle.rule.specs.Room.{unsigned, within}
+use Rattle.rule.proofs.Ruling.{and-both, and-left, and-right}
 use Rattle.rule.proofs.Signed.{read}
 use Rattle.rule.proofs.Whole.{by-test, whole, down, one-side}
 use Rattle.text.specs.declared.Number.{Number}
 use Rattle.text.specs.Reading.{digits, digitsAfter, firstSpace, isDigit, negated, number, same}
 use Rattle.printing.specs.Signs.{minus, nine, nought, space}
-
-both : (c d : Bool) → (c && d) ≡ true → (c ≡ true) × (d ≡ true)
-both true d h = (refl, h)
-both false d h = absurd (false≢true h)
 
 -- what is unreadable stands for no number
 pub not-whole : {z : ℤ} → Number.Unreadable ≡ Number.Whole z → ⊥
@@ -59,7 +56,7 @@ one-digit-more i n d h e = rw (add-one i, pow-succ' 10 i) (omega arith)
 pub digit-range : (b : ℕ) → isDigit b ≡ true → (nought ≤ b) × (b ≤ nine)
 unfolding isDigit
 digit-range b h =
-    let e = both (leb nought b) (leb b nine) h in (leb-true nought b (e .0), leb-true b nine (e .1))
+    (leb-true nought b (and-left (leb nought b) (leb b nine) h), leb-true b nine (and-right (leb nought b) (leb b nine) h))
 
 after-positive : (n : ℕ) (l : List ℕ) (z : ℤ) → digitsAfter n l ≡ Number.Whole z → down z ≡ 0
 unfolding digitsAfter
@@ -136,19 +133,24 @@ module _ (a b : List ℕ) (i : ℕ) (in-a : i < length a) (in-b : i < length b) 
 
 -- ---- ranges
 
--- what a test of z, made on its bits, shows
-module _ (f : ℤ → Bool) (z : ℤ) (r : Bool) (fits : mag z < 2 ^ 63) (e : r ≡ f (toZ w64 (ofZ w64 z))) where
-  pub refuted : not r ≡ true → f z ≡ false
-  refuted h = sym (rw (read w64 z fits) at e) ∙ not-true r h
+-- what tests of z show of a range, made on its bits
+module _ (low high z : ℤ) (fits : mag z < 2 ^ 63) where
+  pub below-range : ltZ (toZ w64 (ofZ w64 z)) low ≡ true → within low high z ≡ false
+  unfolding within
+  below-range h = let e : leZ low z ≡ false = omega (whole, rw (read w64 z fits) at h) in rw e
 
-  pub shown : not r ≡ false → f z ≡ true
-  shown h = sym (rw (read w64 z fits) at e) ∙ not-false r h
+  pub above-range : ltZ (toZ w64 (ofZ w64 z)) low ≡ false → leZ high (toZ w64 (ofZ w64 z)) ≡ true → within low high z ≡ false
+  unfolding within
+  above-range g h =
+      let d : leZ low z ≡ true = omega (whole, rw (read w64 z fits) at g) in
+      let e : ltZ z high ≡ false = omega (whole, rw (read w64 z fits) at h) in rw (d, e)
+
+  pub in-range : ltZ (toZ w64 (ofZ w64 z)) low ≡ false → leZ high (toZ w64 (ofZ w64 z)) ≡ false → within low high z ≡ true
+  unfolding within
+  in-range g h =
+      and-both {a = leZ low z} {b = ltZ z high} (omega (whole, rw (read w64 z fits) at g)) (omega (whole, rw (read w64 z fits) at h))
 
 pub unsigned-casts : (z : ℤ) → unsigned z ≡ true → T (nonNeg z) × Fits w32 (natAbs z)
 unfolding within
-unsigned-casts (pos n) h = (tt, omega (whole, both (leZ (pos 0) (pos n)) (ltZ (pos n) (pos word)) h))
+unsigned-casts (pos n) h = (tt, omega (whole, and-right (leZ (pos 0) (pos n)) (ltZ (pos n) (pos word)) h))
 unsigned-casts (negsuc n) h = absurd (false≢true h)
-
-pub signed-fits : (z : ℤ) → signed z ≡ true → SFits w32 z
-unfolding within
-signed-fits z h = omega (whole, both (leZ (negℤ (pos half)) z) (ltZ z (pos half)) h, one-side z)

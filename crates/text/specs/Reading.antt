@@ -8,6 +8,8 @@ use lib.ListN.{length, take, drop}
 use Rattle.rule.specs.Room.{signed, unsigned}
 use Rattle.printing.specs.Signs.{ascii, space, minus, nought, nine}
 use Rattle.text.specs.declared.Number.{Number}
+use Rattle.text.specs.declared.Unsigned.{Unsigned}
+use Rattle.text.specs.declared.Signed.{Signed}
 use Rattle.text.specs.declared.Line.{Line}
 
 -- a line has at most so many bytes
@@ -48,24 +50,34 @@ unfoldable pub number : List ℕ → Number
 number [] = Number.Unreadable
 number (b ∷ l) = cond (eqb b minus) (negated (digits l)) (digits (b ∷ l))
 
--- ---- lines: each number in the range of its field, unsigned 32 bits for a tick, B and K, signed 32 bits for a reading
+-- ---- fields: unsigned 32 bits for a tick, B and K, signed 32 bits for a reading
 
-unfoldable pub steps : Number → Line
-steps (Number.Whole z) = cond (unsigned z) (Line.Steps (natAbs z)) Line.Unreadable
-steps Number.Unreadable = Line.Unreadable
+unfoldable pub unsignedField : Number → Unsigned
+unsignedField (Number.Whole z) = cond (unsigned z) (Unsigned.Within (natAbs z)) Unsigned.Outside
+unsignedField Number.Unreadable = Unsigned.Outside
 
-unfoldable pub late : Number → Line
-late (Number.Whole z) = cond (unsigned z) (Line.Late (natAbs z)) Line.Unreadable
-late Number.Unreadable = Line.Unreadable
+unfoldable pub signedField : Number → Signed
+signedField (Number.Whole z) = cond (signed z) (Signed.Within z) Signed.Outside
+signedField Number.Unreadable = Signed.Outside
 
-unfoldable pub alone : Number → Line
-alone (Number.Whole z) = cond (signed z) (Line.Alone z) Line.Unreadable
-alone Number.Unreadable = Line.Unreadable
+-- ---- lines: each number in the range of its field
 
-unfoldable pub pair : Number → Number → Line
-pair (Number.Whole t) (Number.Whole z) = cond (unsigned t && signed z) (Line.Pair (natAbs t) z) Line.Unreadable
-pair (Number.Whole t) Number.Unreadable = Line.Unreadable
-pair Number.Unreadable n = Line.Unreadable
+abbrev pub steps : Unsigned → Line
+steps (Unsigned.Within n) = Line.Steps n
+steps Unsigned.Outside = Line.Unreadable
+
+abbrev pub late : Unsigned → Line
+late (Unsigned.Within n) = Line.Late n
+late Unsigned.Outside = Line.Unreadable
+
+abbrev pub alone : Signed → Line
+alone (Signed.Within z) = Line.Alone z
+alone Signed.Outside = Line.Unreadable
+
+abbrev pub pair : Unsigned → Signed → Line
+pair (Unsigned.Within t) (Signed.Within z) = Line.Pair t z
+pair (Unsigned.Within t) Signed.Outside = Line.Unreadable
+pair Unsigned.Outside z = Line.Unreadable
 
 unfoldable pub same : List ℕ → List ℕ → Bool
 same [] [] = true
@@ -81,11 +93,11 @@ firstSpace (b ∷ l) = cond (eqb b space) 0 (suc (firstSpace l))
 -- the bytes before the first space and those after it
 unfoldable pub spaced : List ℕ → List ℕ → Line
 spaced before after =
-    cond (same before stepsWord) (steps (number after))
-    (cond (same before lateWord) (late (number after)) (pair (number before) (number after)))
+    cond (same before stepsWord) (steps (unsignedField (number after)))
+    (cond (same before lateWord) (late (unsignedField (number after))) (pair (unsignedField (number before)) (signedField (number after))))
 
 unfoldable pub lineOf : List ℕ → Line
 lineOf l =
     cond (ltb lineMost (length l)) Line.Unreadable
-    (cond (eqb (firstSpace l) (length l)) (alone (number l))
+    (cond (eqb (firstSpace l) (length l)) (alone (signedField (number l)))
     (spaced (take (firstSpace l) l) (drop (suc (firstSpace l)) l)))

@@ -1,12 +1,30 @@
 // What a line of the input means, its bytes read. What is right stands in specs/.
 ghost use mathlib.Core.Path.{_≡_};
-ghost use Rattle.rule.specs.Room.{signed, unsigned};
-ghost use Rattle.text.specs.Reading.{alone, digits, firstSpace, isDigit, late, lineOf, number, pair, same, spaced, steps};
+ghost use Rattle.text.specs.Reading.{alone, digits, firstSpace, isDigit, late, lineOf, number, pair, same, signedField, spaced, steps, unsignedField};
+
+// An unsigned number of 32 bits is below this.
+const WORD: i64 = 4294967296;
+// The least signed number of 32 bits.
+const LOWEST: i64 = -2147483648;
+// A signed number of 32 bits is below this.
+const HALF: i64 = 2147483648;
 
 // What bytes stand for as a number, in any range.
 pub enum Number {
     Whole(i64),
     Unreadable,
+}
+
+// A tick, B or K: what an unsigned field of 32 bits holds.
+enum Unsigned {
+    Within(u32),
+    Outside,
+}
+
+// A reading: what a signed field of 32 bits holds.
+enum Signed {
+    Within(i32),
+    Outside,
 }
 
 // What a line means.
@@ -21,10 +39,10 @@ pub enum Line {
 fn is_digit(b: u8) -> bool
     ensures { λ r. ⌜ r ≡ isDigit b ⌝ }
 {
-    if b < 48 {
+    if b < b'0' {
         return false;
     }
-    b <= 57
+    b <= b'9'
 }
 
 fn digits(s: &[u8]) -> Number
@@ -43,7 +61,7 @@ fn digits(s: &[u8]) -> Number
         if !is_digit(b) {
             return Number::Unreadable;
         }
-        n = n * 10 + (b - 48) as u64;
+        n = n * 10 + (b - b'0') as u64;
         i += 1;
     }
     Number::Whole(n as i64)
@@ -55,7 +73,7 @@ fn read_number(s: &[u8]) -> Number
     if s.len() == 0 {
         return Number::Unreadable;
     }
-    if s[0] != 45 {
+    if s[0] != b'-' {
         return digits(s);
     }
     let size = digits(&s[1..]);
@@ -65,76 +83,75 @@ fn read_number(s: &[u8]) -> Number
     Number::Whole(-z)
 }
 
-fn unsigned(z: i64) -> bool
-    ensures { λ r. ⌜ r ≡ unsigned z ⌝ }
+// A number that an unsigned field holds.
+fn unsigned_field(n: Number) -> Unsigned
+    ensures { λ r. ⌜ r ≡ unsignedField n ⌝ }
 {
+    let Number::Whole(z) = n else {
+        return Unsigned::Outside;
+    };
     if z < 0 {
-        return false;
+        return Unsigned::Outside;
     }
-    z < 4294967296
+    if WORD <= z {
+        return Unsigned::Outside;
+    }
+    Unsigned::Within(z as u32)
 }
 
-fn signed(z: i64) -> bool
-    ensures { λ r. ⌜ r ≡ signed z ⌝ }
+// A number that a signed field holds.
+fn signed_field(n: Number) -> Signed
+    ensures { λ r. ⌜ r ≡ signedField n ⌝ }
 {
-    if z < -2147483648 {
-        return false;
+    let Number::Whole(z) = n else {
+        return Signed::Outside;
+    };
+    if z < LOWEST {
+        return Signed::Outside;
     }
-    z < 2147483648
+    if HALF <= z {
+        return Signed::Outside;
+    }
+    Signed::Within(z as i32)
 }
 
-fn steps(n: Number) -> Line
+fn steps(n: Unsigned) -> Line
     ensures { λ r. ⌜ r ≡ steps n ⌝ }
 {
-    let Number::Whole(z) = n else {
-        return Line::Unreadable;
-    };
-    if !unsigned(z) {
-        return Line::Unreadable;
+    match n {
+        Unsigned::Within(b) => Line::Steps(b),
+        Unsigned::Outside => Line::Unreadable,
     }
-    Line::Steps(z as u32)
 }
 
-fn late(n: Number) -> Line
+fn late(n: Unsigned) -> Line
     ensures { λ r. ⌜ r ≡ late n ⌝ }
 {
-    let Number::Whole(z) = n else {
-        return Line::Unreadable;
-    };
-    if !unsigned(z) {
-        return Line::Unreadable;
+    match n {
+        Unsigned::Within(k) => Line::Late(k),
+        Unsigned::Outside => Line::Unreadable,
     }
-    Line::Late(z as u32)
 }
 
-fn alone(n: Number) -> Line
+fn alone(n: Signed) -> Line
     ensures { λ r. ⌜ r ≡ alone n ⌝ }
 {
-    let Number::Whole(z) = n else {
-        return Line::Unreadable;
-    };
-    if !signed(z) {
-        return Line::Unreadable;
+    match n {
+        Signed::Within(v) => Line::Alone(v),
+        Signed::Outside => Line::Unreadable,
     }
-    Line::Alone(z as i32)
 }
 
-fn pair(tick: Number, value: Number) -> Line
+fn pair(tick: Unsigned, value: Signed) -> Line
     ensures { λ r. ⌜ r ≡ pair tick value ⌝ }
 {
-    let Number::Whole(t) = tick else {
+    let Unsigned::Within(t) = tick else {
         return Line::Unreadable;
     };
-    let Number::Whole(z) = value else {
+    let Signed::Within(v) = value else {
         return Line::Unreadable;
     };
-    if !unsigned(t) {
-        return Line::Unreadable;
-    }
-    if !signed(z) {
-        return Line::Unreadable;
-    }
-    Line::Pair(t as u32, z as i32)
+    Line::Pair(t, v)
 }
 
 fn same(a: &[u8], b: &[u8]) -> bool
@@ -158,7 +175,7 @@ fn first_space(s: &[u8]) -> usize
 {
     let mut i = 0;
     while i < s.len() {
-        if s[i] == 32 {
+        if s[i] == b' ' {
             return i;
         }
         i += 1;
@@ -170,12 +187,15 @@ fn spaced(before: &[u8], after: &[u8]) -> Line
     ensures { λ r. ⌜ r ≡ spaced (now (before .entry)) (now (after .entry)) ⌝ }
 {
     if same(before, b"steps") {
-        return steps(read_number(after));
+        return steps(unsigned_field(read_number(after)));
     }
     if same(before, b"late") {
-        return late(read_number(after));
+        return late(unsigned_field(read_number(after)));
     }
-    pair(read_number(before), read_number(after))
+    pair(
+        unsigned_field(read_number(before)),
+        signed_field(read_number(after)),
+    )
 }
 
 // What the bytes of a line, without its line feed, mean.
@@ -187,7 +207,7 @@ pub fn parse_line(line: &[u8]) -> Line
     }
     let at = first_space(line);
     if at == line.len() {
-        return alone(read_number(line));
+        return alone(signed_field(read_number(line)));
     }
     spaced(&line[0..at], &line[at + 1..])
 }

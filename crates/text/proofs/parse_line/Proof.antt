@@ -8,14 +8,14 @@ use borrow.Author.Needs.{needs}
 use borrow.Author.Tests.{eq-eqb, le-ltb, lt-ltb, ne-eqb}
 use denote.Ref.{now}
 use lib.ListN.{length}
-use Rattle.text.specs.Reading.{firstSpace, lineOf}
+use Rattle.text.specs.Reading.{firstSpace, lineMost, lineOf}
 use Rattle.text.proofs.Lines.{rest, space-within}
 use Rattle.text.proofs.parse_line.Statement.{statement}
 use Rattle.text.proofs.parse_line.Tie as tie
 
 returns : tie.Need-returns
 unfolding lineOf
-returns c = rw (lt-ltb 64 (length (now (c .before .before .args .line))) (c .if1 .taken))
+returns c = rw (lt-ltb lineMost (length (now (c .before .before .args .line))) (c .if1 .taken))
 
 first-space-requires : tie.Need-first-space-requires
 first-space-requires c κs = search needs
@@ -23,18 +23,22 @@ first-space-requires c κs = search needs
 read-number-requires : tie.Need-read-number-requires
 read-number-requires c κs = search needs
 
+signed-field-requires : tie.Need-signed-field-requires
+signed-field-requires c κs = search needs
+
 alone-requires : tie.Need-alone-requires
 alone-requires c κs = search needs
 
 returns-2 : tie.Need-returns-2
 unfolding lineOf
 returns-2 c =
-    let l = now (c .before .before .before .before .before .before .args .line) in
+    let l = now (c .before .before .before .before .before .before .before .args .line) in
     rw (
       c .alone .ensures,
-      c .before .read-number .ensures,
-      le-ltb 64 (length l) (c .before .before .before .before .if1 .left),
-      eq-eqb (firstSpace l) (length l) (sym (c .before .before .before .first-space .ensures) ∙ c .before .before .if2 .taken),
+      c .before .signed-field .ensures,
+      c .before .before .read-number .ensures,
+      le-ltb lineMost (length l) (c .before .before .before .before .before .if1 .left),
+      eq-eqb (firstSpace l) (length l) (sym (c .before .before .before .before .first-space .ensures) ∙ c .before .before .before .if2 .taken),
     )
 
 sub-spaced : tie.Need-sub-spaced
@@ -72,7 +76,7 @@ returns-3 c =
       rest l (at .result + 1),
       add-one (at .result),
       at .ensures,
-      le-ltb 64 (length l) (c .before .before .before .before .before .if1 .left),
+      le-ltb lineMost (length l) (c .before .before .before .before .before .if1 .left),
       ne-eqb (firstSpace l) (length l) (λ e. c .before .before .before .if2 .left (at .ensures ∙ e)),
     )
 
@@ -83,6 +87,7 @@ parse-line-spec =
     returns
     first-space-requires
     read-number-requires
+    signed-field-requires
     alone-requires
     returns-2
     sub-spaced

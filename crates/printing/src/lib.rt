@@ -32,10 +32,10 @@ fn put_decimal(out: &mut [u8], at: usize, n: usize) -> usize
     ensures { λ r. ⌜ Printed (now (out .entry)) at (decimal n) r (now (out .exit)) ⌝ }
 {
     if n < 10 {
-        return put_byte(out, at, 48 + n as u8);
+        return put_byte(out, at, b'0' + n as u8);
     }
     let next = put_decimal(out, at, n / 10);
-    put_byte(out, next, 48 + (n % 10) as u8)
+    put_byte(out, next, b'0' + (n % 10) as u8)
 }
 
 fn put_number(out: &mut [u8], at: usize, n: usize, end: u8) -> usize
@@ -51,7 +51,7 @@ fn put_whole(out: &mut [u8], at: usize, z: i32, end: u8) -> usize
     ensures { λ r. ⌜ Printed (now (out .entry)) at (whole z ++ (end ∷ [])) r (now (out .exit)) ⌝ }
 {
     if z < 0 {
-        let next = put_byte(out, at, 45);
+        let next = put_byte(out, at, b'-');
         put_number(out, next, (-(z as i64)) as usize, end)
     } else {
         put_number(out, at, z as usize, end)
@@ -63,11 +63,11 @@ pub fn put_row(out: &mut [u8], at: usize, b: Bucket) -> usize
     requires { ⌜ at + lineRoom ≤ length (now out) ⌝ }
     ensures { λ r. ⌜ Printed (now (out .entry)) at (row b) r (now (out .exit)) ⌝ }
 {
-    let count = put_number(out, at, b.start as usize, 32);
-    let least = put_number(out, count, b.count as usize, 32);
-    let largest = put_whole(out, least, b.least, 32);
-    let level = put_whole(out, largest, b.largest, 32);
-    put_whole(out, level, b.level(), 10)
+    let count = put_number(out, at, b.start as usize, b' ');
+    let least = put_number(out, count, b.count as usize, b' ');
+    let largest = put_whole(out, least, b.least, b' ');
+    let level = put_whole(out, largest, b.largest, b' ');
+    put_whole(out, level, b.level(), b'\n')
 }
 
 // The last line.
@@ -76,9 +76,9 @@ pub fn put_total(out: &mut [u8], at: usize, readings: usize, buckets: usize, wor
     ensures { λ r. ⌜ Printed (now (out .entry)) at (total readings buckets worst) r (now (out .exit)) ⌝ }
 {
     let first = put_bytes(out, at, b"total ");
-    let second = put_number(out, first, readings, 32);
-    let third = put_number(out, second, buckets, 32);
-    put_number(out, third, worst as usize, 10)
+    let second = put_number(out, first, readings, b' ');
+    let third = put_number(out, second, buckets, b' ');
+    put_number(out, third, worst as usize, b'\n')
 }
 
 // The line of a refusal: the refused line, from 1, and the refusal's number.
@@ -87,6 +87,6 @@ pub fn put_refused(out: &mut [u8], at: usize, line: usize, number: u32) -> usize
     ensures { λ r. ⌜ Printed (now (out .entry)) at (refused line number) r (now (out .exit)) ⌝ }
 {
     let first = put_bytes(out, at, b"refused ");
-    let second = put_number(out, first, line, 32);
-    put_number(out, second, number as usize, 10)
+    let second = put_number(out, first, line, b' ');
+    put_number(out, second, number as usize, b'\n')
 }

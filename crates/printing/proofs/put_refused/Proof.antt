@@ -4,6 +4,7 @@ use mathlib.Core.List.{append-assoc}
 use native.Mathlib.Omega.{arith}
 use borrow.Author.Needs.{needs}
 use lib.ListN.{length}
+use Rattle.printing.specs.Signs.{space}
 use Rattle.printing.specs.Printing.{decimal, line, refused}
 use Rattle.printing.proofs.Texts.{field-room, room-left, short, then}
 use Rattle.printing.proofs.put_refused.Statement.{statement}
@@ -15,7 +16,7 @@ after-word c = room-left 8 56 (omega arith) (c .before .before .before .before .
 
 after-line : (c : tie.After-put-number) → c .put-number .result + 35 ≤ length (c .put-number .last .0)
 after-line c =
-    field-room (decimal (c .before .before .before .before .before .before .before .before .args .line)) 32 20 35 (short 19 (c .before .before .before .before .before .before .before .before .args .line) (omega (arith, c .before .before .before .before .before .before .before .before .fits .line))) (after-word (c .before .before .before .before)) (c .put-number .ensures)
+    field-room (decimal (c .before .before .before .before .before .before .before .before .args .line)) space 20 35 (short 19 (c .before .before .before .before .before .before .before .before .args .line) (omega (arith, c .before .before .before .before .before .before .before .before .fits .line))) (after-word (c .before .before .before .before)) (c .put-number .ensures)
 
 slice-aggregate-put-bytes : tie.Need-slice-aggregate-put-bytes
 slice-aggregate-put-bytes c = search needs

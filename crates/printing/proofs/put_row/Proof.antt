@@ -8,6 +8,7 @@ use lib.ListN.{length}
 use mir.Syntax.{w32}
 use mir.Val.{ofZ, toZ}
 use Rattle.rule.proofs.Signed.{read}
+use Rattle.printing.specs.Signs.{space}
 use Rattle.printing.specs.Printing.{decimal, line, row, whole}
 use Rattle.printing.proofs.Texts.{field-room, short, then, whole-short}
 use Rattle.printing.proofs.put_row.Statement.{statement}
@@ -34,19 +35,19 @@ largest-short c = whole-short (c .before .before .before .before .before .before
 -- the room behind each field
 after-start : (c : tie.After-put-number) → c .put-number .result + 53 ≤ length (c .put-number .last .0)
 after-start c =
-    field-room (decimal (c .before .before .before .before .args .b .start)) 32 10 53 (start-short (c .before)) (c .before .before .before .before .pre) (c .put-number .ensures)
+    field-room (decimal (c .before .before .before .before .args .b .start)) space 10 53 (start-short (c .before)) (c .before .before .before .before .pre) (c .put-number .ensures)
 
 after-count : (c : tie.After-put-number2) → c .put-number2 .result + 42 ≤ length (c .put-number2 .last .0)
 after-count c =
-    field-room (decimal (c .before .before .before .before .before .before .before .before .before .args .b .count)) 32 10 42 (count-short (c .before)) (after-start (c .before .before .before .before .before)) (c .put-number2 .ensures)
+    field-room (decimal (c .before .before .before .before .before .before .before .before .before .args .b .count)) space 10 42 (count-short (c .before)) (after-start (c .before .before .before .before .before)) (c .put-number2 .ensures)
 
 after-least : (c : tie.After-put-whole) → c .put-whole .result + 30 ≤ length (c .put-whole .last .0)
 after-least c =
-    field-room (whole (c .before .before .before .before .before .before .before .before .before .before .before .before .before .before .args .b .least)) 32 11 30 (least-short (c .before)) (after-count (c .before .before .before .before .before)) (rw (least-read (c .before)) at (c .put-whole .ensures))
+    field-room (whole (c .before .before .before .before .before .before .before .before .before .before .before .before .before .before .args .b .least)) space 11 30 (least-short (c .before)) (after-count (c .before .before .before .before .before)) (rw (least-read (c .before)) at (c .put-whole .ensures))
 
 after-largest : (c : tie.After-put-whole2) → c .put-whole2 .result + 18 ≤ length (c .put-whole2 .last .0)
 after-largest c =
-    field-room (whole (c .before .before .before .before .before .before .before .before .before .before .before .before .before .before .before .before .before .before .before .args .b .largest)) 32 11 18 (largest-short (c .before)) (after-least (c .before .before .before .before .before)) (rw (largest-read (c .before)) at (c .put-whole2 .ensures))
+    field-room (whole (c .before .before .before .before .before .before .before .before .before .before .before .before .before .before .before .before .before .before .before .args .b .largest)) space 11 18 (largest-short (c .before)) (after-least (c .before .before .before .before .before)) (rw (largest-read (c .before)) at (c .put-whole2 .ensures))
 
 cast-put-number : tie.Need-cast-put-number
 cast-put-number c = search needs

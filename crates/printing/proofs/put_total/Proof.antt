@@ -4,6 +4,7 @@ use mathlib.Core.List.{append-assoc}
 use native.Mathlib.Omega.{arith}
 use borrow.Author.Needs.{needs}
 use lib.ListN.{length}
+use Rattle.printing.specs.Signs.{space}
 use Rattle.printing.specs.Printing.{decimal, line, total}
 use Rattle.printing.proofs.Texts.{field-room, room-left, short, then}
 use Rattle.printing.proofs.put_total.Statement.{statement}
@@ -15,11 +16,11 @@ after-word c = room-left 6 58 (omega arith) (c .before .before .before .before .
 
 after-readings : (c : tie.After-put-number) → c .put-number .result + 37 ≤ length (c .put-number .last .0)
 after-readings c =
-    field-room (decimal (c .before .before .before .before .before .before .before .before .args .readings)) 32 20 37 (short 19 (c .before .before .before .before .before .before .before .before .args .readings) (omega (arith, c .before .before .before .before .before .before .before .before .fits .readings))) (after-word (c .before .before .before .before)) (c .put-number .ensures)
+    field-room (decimal (c .before .before .before .before .before .before .before .before .args .readings)) space 20 37 (short 19 (c .before .before .before .before .before .before .before .before .args .readings) (omega (arith, c .before .before .before .before .before .before .before .before .fits .readings))) (after-word (c .before .before .before .before)) (c .put-number .ensures)
 
 after-buckets : (c : tie.After-put-number2) → c .put-number2 .result + 16 ≤ length (c .put-number2 .last .0)
 after-buckets c =
-    field-room (decimal (c .before .before .before .before .before .before .before .before .before .before .before .before .args .buckets)) 32 20 16 (short 19 (c .before .before .before .before .before .before .before .before .before .before .before .before .args .buckets) (omega (arith, c .before .before .before .before .before .before .before .before .before .before .before .before .fits .buckets))) (after-readings (c .before .before .before .before)) (c .put-number2 .ensures)
+    field-room (decimal (c .before .before .before .before .before .before .before .before .before .before .before .before .args .buckets)) space 20 16 (short 19 (c .before .before .before .before .before .before .before .before .before .before .before .before .args .buckets) (omega (arith, c .before .before .before .before .before .before .before .before .before .before .before .before .fits .buckets))) (after-readings (c .before .before .before .before)) (c .put-number2 .ensures)
 
 slice-aggregate-put-bytes : tie.Need-slice-aggregate-put-bytes
 slice-aggregate-put-bytes c = search needs

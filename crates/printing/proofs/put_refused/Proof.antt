@@ -3,20 +3,24 @@ use Prim.Native.Nat.{_+_, _≤_}
 use mathlib.Core.List.{append-assoc}
 use native.Mathlib.Omega.{arith}
 use borrow.Author.Needs.{needs}
-use lib.ListN.{length}
-use Rattle.printing.specs.Signs.{space}
+use lib.ListN.{length, length-append}
 use Rattle.printing.specs.Printing.{decimal, line, refused}
-use Rattle.printing.proofs.Texts.{field-room, room-left, short, then}
+use Rattle.printing.proofs.Texts.{room-left, short, then}
 use Rattle.printing.proofs.put_refused.Statement.{statement}
 use Rattle.printing.proofs.put_refused.Tie as tie
 
--- the room behind the word and each field
+-- the room behind the word and each field; the fields are short
 after-word : (c : tie.After-put-bytes) → c .put-bytes .result + 56 ≤ length (c .put-bytes .last .0)
 after-word c = room-left 8 56 (omega arith) (c .before .before .before .before .pre) (c .put-bytes .ensures)
 
+fields : (c : tie.After-put-bytes) → (length (decimal (c .before .before .before .before .args .line)) ≤ 20) × (length (decimal (c .before .before .before .before .args .number)) ≤ 10)
+fields c =
+    let start = c .before .before .before .before in
+    (short 19 (start .args .line) (omega (arith, start .fits .line)), short 9 (start .args .number) (omega (arith, start .fits .number)))
+
 after-line : (c : tie.After-put-number) → c .put-number .result + 35 ≤ length (c .put-number .last .0)
 after-line c =
-    field-room (decimal (c .before .before .before .before .before .before .before .before .args .line)) space 20 35 (short 19 (c .before .before .before .before .before .before .before .before .args .line) (omega (arith, c .before .before .before .before .before .before .before .before .fits .line))) (after-word (c .before .before .before .before)) (c .put-number .ensures)
+    omega (arith, fields (c .before .before .before .before), after-word (c .before .before .before .before), simp length-append at (c .put-number .ensures .next), c .put-number .kept .0)
 
 slice-aggregate-put-bytes : tie.Need-slice-aggregate-put-bytes
 slice-aggregate-put-bytes c = search needs
@@ -25,10 +29,10 @@ put-bytes-requires : tie.Need-put-bytes-requires
 put-bytes-requires c κs = search needs
 
 put-number-requires : tie.Need-put-number-requires
-put-number-requires c κs = omega (arith, short 19 (c .before .before .before .before .before .before .before .args .line) (omega (arith, c .before .before .before .before .before .before .before .fits .line)), after-word (c .before .before .before))
+put-number-requires c κs = omega (arith, fields (c .before .before .before), after-word (c .before .before .before))
 
 put-number-requires-2 : tie.Need-put-number-requires-2
-put-number-requires-2 c κs = omega (arith, short 9 (c .before .before .before .before .before .before .before .before .before .before .before .args .number) (omega (arith, c .before .before .before .before .before .before .before .before .before .before .before .fits .number)), after-line (c .before .before .before))
+put-number-requires-2 c κs = omega (arith, fields (c .before .before .before .before .before .before .before), after-line (c .before .before .before))
 
 same-length : tie.Need-same-length
 same-length c = search needs

@@ -41,13 +41,13 @@ in-length s n h g e = rw (le-leb 1 (length s) h, le-leb (length s) 10 g) e
 
 returns : tie.Need-returns Inv-loop μ-loop
 unfolding digits
-returns c = rw (lt-leb 1 (length (now (c .before .before .args .s))) (c .if1 .taken))
+returns c = rw (lt-leb 1 (length (now (c .before .before .args .s))) (omega arith))
 
 returns-2 : tie.Need-returns-2 Inv-loop μ-loop
 unfolding digits
 returns-2 c =
     let l = length (now (c .before .before .before .args .s)) in
-    rw (le-leb 1 l (c .before .if1 .left), lt-leb l 10 (c .if2 .taken))
+    rw (le-leb 1 l (omega arith), lt-leb l 10 (omega arith))
 
 loop-holds : tie.Need-loop-holds Inv-loop μ-loop
 loop-holds c = (omega arith, (omega arith, refl))

@@ -15,7 +15,7 @@ use Rattle.text.proofs.parse_line.Tie as tie
 
 returns : tie.Need-returns
 unfolding lineOf
-returns c = rw (lt-ltb lineMost (length (now (c .before .before .args .line))) (c .if1 .taken))
+returns c = rw (lt-ltb lineMost (length (now (c .before .before .args .line))) (omega (arith, c .if1 .taken)))
 
 first-space-requires : tie.Need-first-space-requires
 first-space-requires c κs = search needs
@@ -37,7 +37,7 @@ returns-2 c =
       c .alone .ensures,
       c .before .signed-field .ensures,
       c .before .before .read-number .ensures,
-      le-ltb lineMost (length l) (c .before .before .before .before .before .if1 .left),
+      le-ltb lineMost (length l) (omega (arith, c .before .before .before .before .before .if1 .left)),
       eq-eqb (firstSpace l) (length l) (sym (c .before .before .before .before .first-space .ensures) ∙ c .before .before .before .if2 .taken),
     )
 
@@ -76,7 +76,7 @@ returns-3 c =
       rest l (at .result + 1),
       add-one (at .result),
       at .ensures,
-      le-ltb lineMost (length l) (c .before .before .before .before .before .if1 .left),
+      le-ltb lineMost (length l) (omega (arith, c .before .before .before .before .before .if1 .left)),
       ne-eqb (firstSpace l) (length l) (λ e. c .before .before .before .if2 .left (at .ensures ∙ e)),
     )
 

@@ -1,6 +1,6 @@
--- The rules asked one by one, and the first that is broken; and that a bucket begins one run at most.
+-- The rules asked one by one; and that a bucket begins one run at most.
 use Prim.Native.Nat.{ℕ, zero, suc, _+_, _≤_, _<_}
-use mathlib.Core.Path.{_≡_, refl, sym, _∙_}
+use mathlib.Core.Path.{_≡_, refl}
 use mathlib.Core.Bool.{Bool, true, false, cond, false≢true}
 use mathlib.Core.List.{List, [], _∷_}
 use native.Mathlib.Omega.{arith}
@@ -36,14 +36,6 @@ all-true i [] h = refl
 all-true i (true ∷ l) h = all-true (suc i) l (λ n p. h (suc n) (omega arith))
 all-true i (false ∷ l) h = absurd (false≢true (h 0 (omega arith)))
 
-first-false : (i : ℕ) (l : List Bool) (n : ℕ) → ((m : ℕ) → m < n → getD l m true ≡ true) → getD l n true ≡ false → firstFalse i l ≡ i + n
-unfolding firstFalse
-first-false i [] n h f = absurd (false≢true (sym f))
-first-false i (true ∷ l) zero h f = absurd (false≢true (sym f))
-first-false i (true ∷ l) (suc n) h f = omega (arith, first-false (suc i) l n (λ m p. h (suc m) (omega arith)) f)
-first-false i (false ∷ l) zero h f = omega arith
-first-false i (false ∷ l) (suc n) h f = absurd (false≢true (h 0 (omega arith)))
-
 module _ (k : Kind) (e : ℕ) (b : Bucket) where
   -- those asked, from 1 to the one before n, are met; there is no rule 0 to break
   abbrev pub MetBelow : ℕ → Type 0
@@ -64,11 +56,6 @@ module _ (k : Kind) (e : ℕ) (b : Bucket) where
   pub all-met : (n : ℕ) → 5 < n → MetBelow n → broken k e b ≡ 0
   unfolding meets broken rules
   all-met n h m = all-true 1 (rules k e b) (λ r p. m .1 (suc r) (omega arith))
-
-  pub first-unmet : (n : ℕ) → MetBelow n → meets n k e b ≡ false → broken k e b ≡ n
-  unfolding meets broken
-  first-unmet zero m f = absurd (false≢true (sym f))
-  first-unmet (suc n) m f = first-false 1 (rules k e b) n (λ r p. m .1 (suc r) (omega arith)) f ∙ omega arith
 
 -- ---- runs
 

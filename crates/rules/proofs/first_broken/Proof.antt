@@ -1,54 +1,62 @@
--- `rules::first_broken` meets its contract: every rule passed is met.
-use Prim.Native.Nat.{_-_}
-use mathlib.Core.Path.{sym, _∙_}
-use native.Mathlib.Omega.{arith}
+-- `rules::first_broken` meets its contract: a rule that is not met is the first where those before it are.
 use borrow.Author.Needs.{needs}
-use borrow.Author.Tests.{not-false, not-true}
-use Rattle.rules.proofs.Numbered.{MetBelow, all-met, first-unmet, none-asked, one-more}
+use Rattle.rule.specs.Rules.{broken, firstFalse, rules}
+use Rattle.rule.proofs.Ruling.{flipped}
+use Rattle.rules.specs.Numbered.{meets}
 use Rattle.rules.proofs.first_broken.Statement.{statement}
 use Rattle.rules.proofs.first_broken.Tie as tie
 
-abbrev Inv-loop : tie.InvT-loop
-Inv-loop kind end b rule₀ rule = MetBelow kind end b rule
-
-abbrev μ-loop : tie.MeasureT-loop
-μ-loop kind end b rule₀ rule = 6 - rule
-
-loop-holds : tie.Need-loop-holds Inv-loop μ-loop
-loop-holds c = none-asked (c .args .kind) (c .args .end) (c .args .b)
-
-meets-requires : tie.Need-meets-requires Inv-loop μ-loop
+meets-requires : tie.Need-meets-requires
 meets-requires c κs = search needs
 
-returns : tie.Need-returns Inv-loop μ-loop
-returns c =
-    let here = c .before .before .before .loop in
-    sym (first-unmet _ _ _ (here .rule) (here .inv) (sym (c .before .meets .ensures) ∙ not-true _ (c .if1 .taken)))
+returns : tie.Need-returns
+unfolding broken firstFalse meets rules
+returns c = rw (flipped (c .before .meets .ensures) (c .if1 .taken))
 
-add-rule : tie.Need-add-rule Inv-loop μ-loop
-add-rule c = omega arith
+meets-requires-2 : tie.Need-meets-requires-2
+meets-requires-2 c κs = search needs
 
-loop-less : tie.Need-loop-less Inv-loop μ-loop
-loop-less c = omega arith
+returns-2 : tie.Need-returns-2
+unfolding broken firstFalse meets rules
+returns-2 c = rw (flipped (c .before .before .before .meets .ensures) (c .before .before .if1 .left), flipped (c .before .meets2 .ensures) (c .if2 .taken))
 
-loop-again : tie.Need-loop-again Inv-loop μ-loop
-loop-again c =
-    let here = c .before .before .before .loop in
-    one-more _ _ _ (here .rule) (c .before .before .loop-test .taken) (here .inv) (sym (c .before .meets .ensures) ∙ not-false _ (c .if1 .left))
+meets-requires-3 : tie.Need-meets-requires-3
+meets-requires-3 c κs = search needs
 
-returns-2 : tie.Need-returns-2 Inv-loop μ-loop
-returns-2 c = sym (all-met _ _ _ (c .before .loop .rule) (c .loop-test .left) (c .before .loop .inv))
+returns-3 : tie.Need-returns-3
+unfolding broken firstFalse meets rules
+returns-3 c = rw (flipped (c .before .before .before .before .before .meets .ensures) (c .before .before .before .before .if1 .left), flipped (c .before .before .before .meets2 .ensures) (c .before .before .if2 .left), flipped (c .before .meets3 .ensures) (c .if3 .taken))
+
+meets-requires-4 : tie.Need-meets-requires-4
+meets-requires-4 c κs = search needs
+
+returns-4 : tie.Need-returns-4
+unfolding broken firstFalse meets rules
+returns-4 c = rw (flipped (c .before .before .before .before .before .before .before .meets .ensures) (c .before .before .before .before .before .before .if1 .left), flipped (c .before .before .before .before .before .meets2 .ensures) (c .before .before .before .before .if2 .left), flipped (c .before .before .before .meets3 .ensures) (c .before .before .if3 .left), flipped (c .before .meets4 .ensures) (c .if4 .taken))
+
+meets-requires-5 : tie.Need-meets-requires-5
+meets-requires-5 c κs = search needs
+
+returns-5 : tie.Need-returns-5
+unfolding broken firstFalse meets rules
+returns-5 c = rw (flipped (c .before .before .before .before .before .before .before .before .before .meets .ensures) (c .before .before .before .before .before .before .before .before .if1 .left), flipped (c .before .before .before .before .before .before .before .meets2 .ensures) (c .before .before .before .before .before .before .if2 .left), flipped (c .before .before .before .before .before .meets3 .ensures) (c .before .before .before .before .if3 .left), flipped (c .before .before .before .meets4 .ensures) (c .before .before .if4 .left), flipped (c .before .meets5 .ensures) (c .if5 .taken))
+
+returns-6 : tie.Need-returns-6
+unfolding broken firstFalse meets rules
+returns-6 c = rw (flipped (c .before .before .before .before .before .before .before .before .before .meets .ensures) (c .before .before .before .before .before .before .before .before .if1 .left), flipped (c .before .before .before .before .before .before .before .meets2 .ensures) (c .before .before .before .before .before .before .if2 .left), flipped (c .before .before .before .before .before .meets3 .ensures) (c .before .before .before .before .if3 .left), flipped (c .before .before .before .meets4 .ensures) (c .before .before .if4 .left), flipped (c .before .meets5 .ensures) (c .if5 .left))
 
 pub first-broken-spec : {M : Type 1} → statement M
 first-broken-spec =
     tie.close
     (tie.spec
-    Inv-loop
-    μ-loop
-    loop-holds
     meets-requires
     returns
-    add-rule
-    loop-less
-    loop-again
-    returns-2)
+    meets-requires-2
+    returns-2
+    meets-requires-3
+    returns-3
+    meets-requires-4
+    returns-4
+    meets-requires-5
+    returns-5
+    returns-6)

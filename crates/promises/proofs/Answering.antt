@@ -1,14 +1,14 @@
 -- Demand 1: the chain of refusals of each call gives the first row that is due, and a refusal leaves what was lent.
 use Prim.Native.Nat.{ℕ, zero, suc, _+_, _*_, _/_, _%_, _≤_, _<_, min}
 use mathlib.Core.Path.{_≡_, refl, sym, ap, subst, _∙_}
-use mathlib.Core.Bool.{Bool, true, false, false≢true, not, _&&_}
+use mathlib.Core.Bool.{Bool, true, false, cond, false≢true, not, _&&_}
 use mathlib.Core.List.{List, [], _∷_, _++_}
 use mathlib.Core.Option.{Option, some, none}
 use native.Mathlib.Omega.{arith}
-use borrow.Author.Tests.{le-leb, le-ltb, leb-false, leb-true, lt-ltb, ne-eqb, not-false}
+use borrow.Author.Tests.{eq-eqb, eqb-true, le-leb, le-ltb, leb-false, leb-true, lt-ltb, ne-eqb, not-false}
 use lib.Dec.{eqb, leb, ltb}
 use lib.IntN.{ℤ}
-use lib.ListN.{length}
+use lib.ListN.{drop, length}
 use Rattle.rule.specs.declared.Bucket.{Bucket}
 use Rattle.rule.specs.declared.Kind.{Kind}
 use Rattle.rule.specs.declared.Kind.the-variants.{InOrder, Late}
@@ -19,15 +19,23 @@ use Rattle.rule.specs.declared.Tally.{Tally}
 use Rattle.rule.specs.Answers.{number, place}
 use Rattle.rule.specs.Bytes.{recordsOf, saved}
 use Rattle.rule.specs.Calls.{Verdict, accepted, admitted, counted, fileVerdict, found, foundOf, gapsKept, grown, isHeld, kept, late, lateVerdict, loaded, loadVerdict, lookupOutcome, nextVerdict, refuse, refuseFault, refused, traced, writeVerdict, wrote}
-use Rattle.rule.specs.Numbers.{most, recordWidth, slotWidth, tallyMost, ticks}
+use Rattle.rule.specs.Numbers.{most, recordWidth, slotWidth, tallyMost, ticks, word}
 use Rattle.rule.specs.Files.{Finds, FirstBroken, meets}
-use Rattle.rule.specs.Room.{flat, gapsBounded, gapsGood, roomy, runsAllowed, sound, stepsGood, tableOf}
-use Rattle.rule.specs.Rules.{Fault, fault, firstFault, isWhole, ruled, whole}
+use Rattle.rule.specs.Room.{flat, laid, signed, gapsBounded, gapsGood, roomy, runsAllowed, sound, stepsGood, tableOf}
+use Rattle.rule.specs.Rules.{Fault, fault, firstFault, follows, isWhole, ruled, whole}
 use Rattle.rule.specs.Table.{Table, accept, holding, insert, limit, limitOver, needed, nextTick, runs, single}
 use Rattle.rule.proofs.Merging.{settle-runs}
-use Rattle.rule.proofs.Ruling.{first-is-first}
+use Rattle.rule.proofs.Ruling.{Meets, facts-meets, first-is-first, meets-facts}
+use Rattle.rule.proofs.Signed.{signed-fits}
+use Rattle.slots.proofs.Laying.{drop-laid}
+use Rattle.room.specs.Steps.{Ready}
+use Rattle.room.proofs.Sounding.{sound-facts, used-needed}
+use Rattle.room.proofs.Taking.{taken-short}
+use Rattle.trace.proofs.Leaving.{late-either, next-either, open-either}
+use Rattle.saved.proofs.Filing.{load-accepts, load-leaves, loads-needed}
+use Rattle.promises.proofs.Outcomes.{traced-refused}
 use Rattle.rule.proofs.Whole.{by-test}
-use Rattle.promises.specs.Answered.{Answered, Demand1, Row, fileRows, firstOf, indexOf, lateRows, lookupRows, nextRows, openRows, outside, row, said, saidFound, saidWritten, writeRows}
+use Rattle.promises.specs.Answered.{Answered, Demand1, Lawful, Row, fileRows, firstOf, indexOf, lateRows, lookupRows, nextRows, openRows, outside, row, said, slotsNeeded, saidFound, saidWritten, writeRows}
 
 -- ---- one link of a chain and one row
 
@@ -68,9 +76,24 @@ unfolding runsAllowed gapsKept late
 runs-due InOrder gaps n = refl
 runs-due Late gaps n = not-leb n gaps
 
-room-due : (g : Settings) (l : List ℤ) → not (roomy g l) ≡ ltb (length l) (slotWidth * needed g)
+-- the limit, in 01's words
+pub limit-is : (k : Kind) (base n : ℕ) → limitOver k base n ≡ base + cond (late k) n 0
+unfolding limitOver late
+limit-is InOrder base n = omega arith
+limit-is Late base n = refl
+
+-- in order K plays no part
+needed-over : (k : Kind) (base gaps : ℕ) → limitOver k base (gapsKept k gaps) ≡ base + cond (late k) gaps 0
+unfolding limitOver late gapsKept
+needed-over InOrder base gaps = omega arith
+needed-over Late base gaps = refl
+
+pub needed-is : (g : Settings) → needed (kept g) ≡ slotsNeeded g
+needed-is g = ap (λ (n : ℕ). n + 1) (needed-over (g .kind) (2 * g .steps) (g .gaps))
+
+room-due : (g : Settings) (l : List ℤ) → not (roomy (kept g) l) ≡ ltb (length l) (4 * slotsNeeded g)
 unfolding roomy
-room-due g l = not-leb (slotWidth * needed g) (length l)
+room-due g l = not-leb (slotWidth * needed (kept g)) (length l) ∙ ap (λ (n : ℕ). ltb (length l) (4 * n)) (needed-is g)
 
 -- late, the limit leaves a bucket for each run
 enough : (k : Kind) (base n : ℕ) → late k ≡ true → n ≤ limitOver k base n
@@ -109,7 +132,7 @@ unfolding admitted
 admits g l v rows e =
     link (not (stepsGood (kept g))) _ Refusal.Steps _ _ (steps-due (kept g)) (λ a.
     link (not (gapsGood (g .kind) (gapsKept (g .kind) (g .gaps)))) _ Refusal.Gaps _ _ (gaps-due (g .kind) (g .gaps)) (λ b.
-    link (not (roomy (kept g) l)) _ Refusal.Room _ _ (room-due (kept g) l) (λ c. e)))
+    link (not (roomy (kept g) l)) _ Refusal.Room _ _ (room-due g l) (λ c. e)))
 
 nothing : {A : Type 0} (a : A) → said (accepted a) ≡ firstOf []
 unfolding said firstOf
@@ -147,7 +170,7 @@ loading g file l =
     (link (not (eqb (length file % recordWidth) 0)) _ Refusal.Length _ _ refl (λ a.
     fault-link (firstFault (g .kind) 0 0 (recordsOf file)) _ _
     (link (not (runsAllowed (g .kind) (gapsKept (g .kind) (g .gaps)) (runs (recordsOf file)))) _ Refusal.Runs _ _ (runs-due (g .kind) (g .gaps) (runs (recordsOf file))) (λ b.
-    link (ltb (limit (kept g) (runs (recordsOf file))) (length (recordsOf file))) _ Refusal.Overfull _ _ refl (λ c. nothing _)))))
+    link (ltb (limit (kept g) (runs (recordsOf file))) (length (recordsOf file))) _ Refusal.Overfull _ _ (ap (λ (n : ℕ). ltb n (length (recordsOf file))) (limit-is (g .kind) (2 * g .steps) (runs (recordsOf file)))) (λ c. nothing _)))))
 
 -- a row of another number is not the one given
 other : (n : ℕ) (c : Bool) (rows : List Row) (i : ℕ) → (n ≡ 8 → ⊥) → firstOf (row n c ∷ rows) ≡ some (8, i) → firstOf rows ≡ some (8, i)
@@ -181,6 +204,51 @@ eighth g file l i e =
 loaded-said : (g : Settings) (file : List ℕ) (l : List ℤ) → said (loaded g file l .0) ≡ firstOf (openRows g l ++ fileRows g file)
 loaded-said g file l = answered (kept g) l (loadVerdict (kept g) file l) (openRows g l ++ fileRows g file) (loading g file l) .exactly
 
+-- ---- the record rules
+
+lawful : (k : Kind) (e : ℕ) (b : Bucket) → Meets k e b → Lawful k e b
+unfolding follows late
+lawful InOrder e b m = record { count = m .positive; inside = m .inside; ordered = m .ordered; alone = m .single-level; in-order = λ _. eqb-true (b .start) e (m .follow); not-below = λ h. absurd (false≢true h) }
+lawful Late e b m = record { count = m .positive; inside = m .inside; ordered = m .ordered; alone = m .single-level; in-order = λ h. absurd (false≢true (sym h)); not-below = λ _. leb-true e (b .start) (m .follow) }
+
+law-meets : (k : Kind) (e : ℕ) (b : Bucket) → Lawful k e b → Meets k e b
+unfolding follows late
+law-meets InOrder e b m = record { positive = m .count; inside = m .inside; ordered = m .ordered; single-level = m .alone; follow = eq-eqb (b .start) e (m .in-order refl) }
+law-meets Late e b m = record { positive = m .count; inside = m .inside; ordered = m .ordered; single-level = m .alone; follow = le-leb e (b .start) (m .not-below refl) }
+
+-- ---- the slots past the needed number
+
+module _ (g : Settings) (l : List ℤ) where
+  -- what an outcome that leaves no more buckets than slots needed leaves behind them
+  abbrev Past : Verdict Table → Type 0
+  Past v = drop (slotWidth * needed g) (traced g l v .1) ≡ drop (slotWidth * needed g) l
+
+  refused-past : (r : Refusal) → Past (refused r)
+  unfolding traced
+  refused-past r = refl
+
+  accepted-past : (t : Table) → length t ≤ needed g → Past (accepted t)
+  unfolding traced
+  accepted-past t h = drop-laid (needed g) t l h (needed g) (omega arith)
+
+named-past : (g : Settings) (l m : List ℤ) → drop (slotWidth * needed (kept g)) m ≡ drop (slotWidth * needed (kept g)) l → drop (4 * slotsNeeded g) m ≡ drop (4 * slotsNeeded g) l
+named-past g l m e = subst (λ (n : ℕ). drop (slotWidth * n) m ≡ drop (slotWidth * n) l) (needed-is g) e
+
+-- a reading's settings are kept ones
+read-past : (s : State) (l m : List ℤ) → drop (slotWidth * needed (s .settings)) m ≡ drop (slotWidth * needed (s .settings)) l → drop (4 * slotsNeeded (s .settings)) m ≡ drop (4 * slotsNeeded (s .settings)) l
+read-past s l m e = subst (λ (n : ℕ). drop (slotWidth * n) m ≡ drop (slotWidth * n) l) (ap (λ (n : ℕ). n + 1) (limit-is (s .settings .kind) (2 * s .settings .steps) (s .settings .gaps))) e
+
+taken-past : (s : State) (l : List ℤ) (at k tick : ℕ) (v : ℤ) → Ready s l at k tick v → signed v ≡ true → tick < word → Past (s .settings) l (accepted (accept (s .settings) (tableOf s l) tick v))
+taken-past s l at k tick v r range small =
+    accepted-past (s .settings) l _ (omega (arith, taken-short s l at k tick v r (signed-fits v range) small, used-needed s l (sound-facts s l (r .fit))))
+
+load-past : (g : Settings) (file : List ℕ) (l : List ℤ) (o : Verdict State × List ℤ) → loaded g file l ≡ o → drop (slotWidth * needed (kept g)) (o .1) ≡ drop (slotWidth * needed (kept g)) l
+load-past g file l (refused r, m) e = ap (drop (slotWidth * needed (kept g))) (traced-refused (kept g) l (loadVerdict (kept g) file l) r m e)
+load-past g file l (accepted t, m) e =
+    let a = load-accepts g file l t (ap (λ (o : Verdict State × List ℤ). o .0) e) in
+    let left : m ≡ laid (needed (kept g)) (recordsOf file) l = ap (λ (o : Verdict State × List ℤ). o .1) (sym e ∙ load-leaves g file l (a .0) (a .1)) in
+    ap (drop (slotWidth * needed (kept g))) left ∙ drop-laid (needed (kept g)) (recordsOf file) l (omega (arith, loads-needed (kept g) file (a .1))) (needed (kept g)) (omega arith)
+
 pub demand1 : Demand1
 unfolding nextVerdict lateVerdict lookupOutcome writeVerdict ruled
 demand1 = record {
@@ -204,5 +272,10 @@ demand1 = record {
       (loading g file l);
   places = λ g file l i e. eighth g file l i (sym (loaded-said g file l) ∙ e);
   breaks = λ k file i inside broken. by-test (isWhole (firstFault k 0 0 (recordsOf file))) (λ h. absurd (false≢true (sym broken ∙ all-meet k file (firstFault k 0 0 (recordsOf file)) h (first-is-first k file) i inside))) (λ h. h);
+  rules = λ k e b. (λ h. lawful k e b (meets-facts k e b h), λ h. facts-meets k e b (law-meets k e b h));
+  past-open = λ g l. named-past g l _ (open-either g l (Past (kept g) l) (refused-past (kept g) l) (λ _. accepted-past (kept g) l [] (omega arith)));
+  past-next = λ s l v range. read-past s l _ (next-either s l v (Past (s .settings) l) (refused-past (s .settings) l) (λ _ r small. taken-past s l _ _ _ v r range small));
+  past-late = λ s l tick v range. read-past s l _ (late-either s l v (Past (s .settings) l) (refused-past (s .settings) l) tick (λ _ _ r small. taken-past s l _ _ tick v r range small));
+  past-load = λ g file l. named-past g l _ (load-past g file l (loaded g file l) refl);
   tally = told;
 }

@@ -3,7 +3,7 @@ use Prim.Native.Nat.{ℕ, _*_, _≤_, _<_}
 use mathlib.Core.Path.{_≡_, refl, sym, ap, _∙_, subst}
 use mathlib.Core.Logic.{_≢_}
 use mathlib.Core.Bool.{Bool, true, false, cond}
-use mathlib.Core.List.{List, [], _∷_, _++_}
+use mathlib.Core.List.{List, [], _∷_, _++_, List·Memᴰ}
 use mathlib.Core.Option.{Option, some}
 use native.Mathlib.Omega.{arith}
 use borrow.Author.Tests.{le-ltb, lt-leb}
@@ -41,8 +41,8 @@ use Rattle.ndezulangi.proofs.SameState.{same-state}
 use Rattle.promises.specs.Answered.{Answered, Row, fileRows, firstOf, lateRows, lookupRows, nextRows, openRows, said, saidFound, saidWritten, writeRows}
 use Rattle.promises.specs.Reached.{Reached}
 use Rattle.promises.specs.Exported.{Called, Counts, ExportedDemand1, ExportedDemand2, Promised, Replies, Shows, firstDue, wroteAll}
-use Rattle.promises.proofs.Answering.{demand1}
-use Rattle.promises.proofs.Keeping.{held-small, keeps, kept-twice, loaded-kept}
+use Rattle.promises.proofs.Answering.{demand1, needed-is}
+use Rattle.promises.proofs.Keeping.{held-small, keeps, kept-same, kept-twice, loaded-kept}
 use Rattle.promises.proofs.Outcomes.{next-in-order}
 
 -- ---- demand 1
@@ -78,7 +78,7 @@ eight back (refused r) e = ap (λ (n : ℕ). some (n, place r)) e
 eight back (accepted s) e = absurd (omega arith)
 
 pub exported-demand1 : ExportedDemand1
-unfolding sound clauses allOf stepsGood nextVerdict lateVerdict lookupOutcome foundOf writeVerdict refuse traced wrote answer replying showing telling
+unfolding sound clauses allOf stepsGood nextVerdict lateVerdict lookupOutcome foundOf writeVerdict refuse traced wrote answer replying showing telling kindOf
 exported-demand1 = record {
   opens = λ kind steps gaps l. let g = settingsOf kind steps gaps in replies none (opened g l .0) (openRows g l) l (opened g l .1) (demand1 .opens g l);
   nexts = λ f l v. let s = stateFrom f in replies f (nextOutcome s l v .0) (nextRows s l) l (nextOutcome s l v .1) (demand1 .nexts s l v);
@@ -88,6 +88,7 @@ exported-demand1 = record {
   saves = λ f l out. let s = stateFrom f in counts (saveOutcome s l out .0) (writeRows s l (length out) (recordWidth * f .used)) out (saveOutcome s l out .1) (demand1 .saves s l out);
   loads = λ kind steps gaps file l. let g = settingsOf kind steps gaps in replies none (loaded g file l .0) (openRows g l ++ fileRows g file) l (loaded g file l .1) (demand1 .loads g file l);
   places = λ kind steps gaps file l e. let g = settingsOf kind steps gaps in demand1 .places g file l (replying none (answer (loaded g file l .0)) .place) (eight none (loaded g file l .0) e);
+  kinds = (refl, λ n. refl);
   unsound = λ l. refl;
   unusable = λ l tick v out bytes. refl;
 }
@@ -220,7 +221,7 @@ promises {kind} {steps} {gaps} {rs} {f} {l} c =
       plain = plain;
       kind-named = sym (ap (λ (x : Fields). x .kind) plain) ∙ ap (λ (x : Settings). numberOf (x .kind)) (k .named);
       steps-named = ap (λ (x : Settings). x .steps) (k .named);
-      gaps-named = ap (λ (x : Settings). x .gaps) (k .named);
+      gaps-named = k .gaps-named;
       size = k .size;
       runs = k .runs;
       readings = k .readings;
@@ -230,7 +231,7 @@ promises {kind} {steps} {gaps} {rs} {f} {l} c =
           let h : Settings = settingsOf n b q in
           let bytes : List ℕ = saved t in
           ap (λ (x : Table). replying none (answer (loaded h (saved x) room .0))) (sym (k .buckets))
-          ∙ ap (λ (x : Verdict State × List ℤ). replying none (answer (x .0))) (loaded-kept (stateFrom f .settings) h bytes room (same ∙ sym (kept-twice (settingsOf kind steps gaps)) ∙ ap kept (sym (k .named))) ∙ saved-loaded (stateFrom f) l room (k .fit) (subst (λ (x : Settings). slotWidth * needed x ≤ length room) (sym (k .named)) long))
+          ∙ ap (λ (x : Verdict State × List ℤ). replying none (answer (x .0))) (loaded-kept (stateFrom f .settings) h bytes room (kept-same h (settingsOf kind steps gaps) same ∙ sym (kept-twice (settingsOf kind steps gaps)) ∙ ap kept (sym (k .named))) ∙ saved-loaded (stateFrom f) l room (k .fit) (subst (λ (x : Settings). slotWidth * needed x ≤ length room) (sym (k .named)) (subst (λ (n : ℕ). slotWidth * n ≤ length room) (sym (needed-is (settingsOf kind steps gaps))) long)))
           ∙ ap (λ (x : Fields). record { refusal = 0; place = 0; state = x }) plain;
       picture = λ curve E few near r m.
           let p = k .picture curve E few near in
@@ -240,6 +241,7 @@ promises {kind} {steps} {gaps} {rs} {f} {l} c =
             near = subst (λ (x : Found). distance (r .value) (showing x .level) ≤ E) (sym (seen .answer)) (seen .near);
             error = omega (arith, shown-error f l (r .tick), p .1);
           };
+      lookups = λ tick b m h. ap showing (k .lookups tick b (subst (List·Memᴰ b) (sym (k .buckets)) m) h);
       covers = λ tick.
           looked f l tick (arrived tick rs) (k .fit)
           (same-test (isHeld (holding tick t)) (arrived tick rs) (sym (held-counts 0 tick t (sound-ordered (stateFrom f) l facts)) ∙ k .covers tick))

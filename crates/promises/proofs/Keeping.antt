@@ -2,7 +2,8 @@
 use Prim.Native.Nat.{ℕ, zero, suc, _+_, _*_, _/_, _≤_, _<_}
 use mathlib.Core.Path.{_≡_, refl, sym, ap, _∙_, subst}
 use mathlib.Core.Bool.{Bool, true, false, cond, true≢false, false≢true}
-use mathlib.Core.List.{List, [], _∷_, List·Memᴰ}
+use mathlib.Core.List.{List, [], _∷_, List·Memᴰ, List·Memᴰ·cases-cons, List·Memᴰ·not-nil}
+use mathlib.Core.Logic.{⊎-elim}
 use mathlib.Core.Option.{Option, some}
 use native.Mathlib.Omega.{arith}
 use borrow.Author.Tests.{eqb-true, lt-leb}
@@ -19,10 +20,10 @@ use Rattle.rule.specs.Bytes.{saved}
 use Rattle.rule.specs.Calls.{Verdict, accepted, foundOf, found, gapsKept, isHeld, kept, late, lateOutcome, lateVerdict, loaded, loadVerdict, lookupOutcome, nextOutcome, nextVerdict, opened, admitted, refuse, stateOf, traced}
 use Rattle.rule.specs.Numbers.{recordWidth, ticks}
 use Rattle.rule.specs.Room.{laid, signed, slots, sound, tableOf}
-use Rattle.rule.specs.Table.{Table, accept, holders, holding, holds, lastEnd, limit, needed, nextTick, readings, runs}
+use Rattle.rule.specs.Table.{Table, Ordered, accept, holders, holding, holds, lastEnd, limit, needed, nextTick, readings, runs}
 use Rattle.rule.specs.Rules.{follows}
 use Rattle.rule.proofs.Ruling.{Ruled}
-use Rattle.rule.proofs.Tables.{held-within, one}
+use Rattle.rule.proofs.Tables.{held-member, held-once, held-within, one}
 use Rattle.rule.proofs.Whole.{by-test}
 use Rattle.slots.proofs.Laying.{length-slots, slots-laid}
 use Rattle.room.proofs.Placing.{held-counts}
@@ -36,8 +37,9 @@ use Rattle.trace.proofs.Leaving.{late-either, late-leaves, next-either, next-le
 use Rattle.demands.specs.History.{Accepted, Reading, Takes, arrived, runsOf, tableAfter}
 use Rattle.demands.specs.Served.{Near, Served, Shown}
 use Rattle.demands.proofs.Instance.{demand3}
-use Rattle.promises.specs.Reached.{Reached, late-refused, lates, load-refused, loads, next-refused, nexts, open-refused, opens}
+use Rattle.promises.specs.Reached.{Reached, SameSettings, late-refused, lates, load-refused, loads, next-refused, nexts, open-refused, opens}
 use Rattle.promises.specs.Demands.{Kept, Seen}
+use Rattle.promises.proofs.Answering.{limit-is}
 use Rattle.promises.proofs.Outcomes.{accepted-is, bytes-written, not-accepted, traced-refused}
 
 -- ---- along the way
@@ -70,6 +72,23 @@ twice Late gaps = refl
 
 pub kept-twice : (g : Settings) → kept (kept g) ≡ kept g
 kept-twice g = λ i. record { kind = g .kind; steps = g .steps; gaps = twice (g .kind) (g .gaps) i }
+
+-- settings that are the same, in order but for K, are kept as the same
+kept-gaps : (k : Kind) (m n : ℕ) → (late k ≡ true → m ≡ n) → gapsKept k m ≡ gapsKept k n
+unfolding gapsKept late
+kept-gaps InOrder m n e = refl
+kept-gaps Late m n e = e refl
+
+pub kept-same : (h g : Settings) → SameSettings h g → kept h ≡ kept g
+kept-same h g same =
+    let gaps : gapsKept (h .kind) (h .gaps) ≡ gapsKept (g .kind) (g .gaps) = ap (λ (k : Kind). gapsKept k (h .gaps)) (same .kind) ∙ kept-gaps (g .kind) (h .gaps) (g .gaps) (same .gaps) in
+    λ i. record { kind = same .kind i; steps = same .steps i; gaps = gaps i }
+
+-- K as kept, in 01's words
+pub gaps-are : (k : Kind) (n : ℕ) → gapsKept k n ≡ cond (late k) n 0
+unfolding gapsKept late
+gaps-are InOrder n = refl
+gaps-are Late n = refl
 
 pub loaded-kept : (g h : Settings) (file : List ℕ) (room : List ℤ) → kept h ≡ kept g → loaded h file room ≡ loaded g file room
 loaded-kept g h file room e = ap (λ (k : Settings). traced k room (loadVerdict k file room)) e
@@ -129,7 +148,7 @@ known {g} (load-refused {rs = rs} {s = s} {l = l} {m = m} {r = q} h file r e) = 
 known {g} (loads {rs = rs} {s = s} {t = t} {l = l} {m = m} {written = written} {n = n} out room h same r saves e) =
     let k = known r in
     let file : take (recordWidth * n) written ≡ saved (tableOf s l) = bytes-written s l out n written saves in
-    let again : loaded (s .settings) (saved (tableOf s l)) room ≡ (accepted t, m) = loaded-kept h (s .settings) (saved (tableOf s l)) room (ap kept (k .named) ∙ kept-twice g ∙ sym same) ∙ ap (λ (f : List ℕ). loaded h f room) (sym file) ∙ e in
+    let again : loaded (s .settings) (saved (tableOf s l)) room ≡ (accepted t, m) = loaded-kept h (s .settings) (saved (tableOf s l)) room (ap kept (k .named) ∙ kept-twice g ∙ sym (kept-same h g same)) ∙ ap (λ (f : List ℕ). loaded h f room) (sym file) ∙ e in
     let w = saved-accepted s l room t m (k .fit) again in
     let read : tableOf s m ≡ tableOf s l = ap (λ (x : List ℤ). tableOf s x) (w .1) ∙ same-slots s l room in
     subst (λ (x : State). Known g rs x m) (sym (w .0)) (record { named = k .named; fit = w .2; buckets = read ∙ k .buckets; taken = k .taken })
@@ -142,6 +161,15 @@ unfolding Ruled holders
 held-small k e tick [] r h = absurd (omega arith)
 held-small k e tick (b ∷ t) r h =
     by-test (holds tick b) (λ g. omega (arith, held-within tick b g, r .0 .inside)) (λ g. held-small k (end b) tick t (r .1) (omega (arith, ap one g)))
+
+-- the bucket that holds a tick is the one found
+held-is : (e tick : ℕ) (t : Table) (b : Bucket) → Ordered e t → List·Memᴰ b t → holds tick b ≡ true → holding tick t ≡ some b
+unfolding holding Ordered holders
+held-is e tick [] b o m h = absurd (List·Memᴰ·not-nil m)
+held-is e tick (a ∷ t) b o m h =
+    by-test (holds tick a)
+    (λ g. ⊎-elim (λ same. rw g (ap some (sym same))) (λ rest. absurd (omega (arith, ap one g, held-member tick rest h, held-once e tick (a ∷ t) o))) (List·Memᴰ·cases-cons m))
+    (λ g. ⊎-elim (λ same. absurd (false≢true (sym g ∙ subst (λ (x : Bucket). holds tick x ≡ true) same h))) (λ rest. rw g (held-is (end a) tick t b (o .1 .1) rest h)) (List·Memᴰ·cases-cons m))
 
 shows : (s : State) (l : List ℤ) (tick : ℕ) (b : Bucket) → sound s l ≡ true → tick < ticks → holding tick (tableOf s l) ≡ some b
     → lookupOutcome s l tick ≡ Found.Level (level b) (error b) (b .least) (b .largest)
@@ -166,6 +194,9 @@ keeps {g} {rs} {s} {l} r =
     let same : s .settings .steps ≡ g .steps = ap (λ (x : Settings). x .steps) (k .named) in
     record {
       named = k .named;
+      kind-named = ap (λ (x : Settings). x .kind) (k .named);
+      steps-named = same;
+      gaps-named = ap (λ (x : Settings). x .gaps) (k .named) ∙ gaps-are (g .kind) (g .gaps);
       fit = k .fit;
       buckets = k .buckets ∙ ap (λ (x : Settings). tableAfter x rs) (k .named);
       picture = λ c E few near.
@@ -175,7 +206,10 @@ keeps {g} {rs} {s} {l} r =
                 record { bucket = b .0; answer = shows s l (q .tick) (b .0) (k .fit) (held-small (s .settings .kind) 0 (q .tick) (tableOf s l) (f .rules) (omega (arith, held-counts 0 (q .tick) (tableOf s l) (sound-ordered s l f), is-held (holding (q .tick) (tableOf s l)) (b .1)))) (b .1); near = b .2 },
             p .1,
           );
-      size = omega (arith, v .size, length-slots l 0 (s .used), ap (limit (s .settings)) (v .true-runs), ap (λ (x : Settings). limit x (runsOf rs)) (k .named));
+      size = omega (arith, v .size, length-slots l 0 (s .used), ap (limit (s .settings)) (v .true-runs), ap (λ (x : Settings). limit x (runsOf rs)) (k .named), limit-is (g .kind) (2 * g .steps) (runsOf rs));
+      lookups = λ tick b m h.
+          let o = sound-ordered s l f in
+          shows s l tick b (k .fit) (held-small (s .settings .kind) 0 tick (tableOf s l) (f .rules) (held-member tick m h)) (held-is 0 tick (tableOf s l) b o m h);
       runs = f .true-runs ∙ v .true-runs;
       readings = f .true-readings ∙ v .each;
       next = λ in-order. omega (arith, follows-on (s .settings .kind) 0 (tableOf s l) (ap (λ (x : Settings). late (x .kind)) (k .named) ∙ in-order) (f .rules), v .each);

@@ -1,12 +1,13 @@
 -- Demand 1: every call ends with its answer, or with one refusal of document 01's table, given exactly when the table says.
-use Prim.Native.Nat.{ℕ, _+_, _*_, _/_, _%_, _<_, min}
+use Prim.Native.Nat.{ℕ, _+_, _*_, _/_, _%_, _≤_, _<_, min}
 use mathlib.Core.Path.{_≡_}
-use mathlib.Core.Bool.{Bool, false, cond, not, _&&_, _||_}
+use mathlib.Core.Bool.{Bool, true, false, cond, not, _&&_, _||_}
 use mathlib.Core.List.{List, [], _∷_, _++_}
 use mathlib.Core.Option.{Option, some, none}
 use lib.Dec.{eqb, leb, ltb}
 use lib.IntN.{ℤ}
-use lib.ListN.{length}
+use lib.ListN.{drop, length}
+use lib.Signed.{leZ}
 use Rattle.rule.specs.declared.Bucket.{Bucket}
 use Rattle.rule.specs.declared.Found.{Found}
 use Rattle.rule.specs.declared.Kind.{Kind}
@@ -16,15 +17,15 @@ use Rattle.rule.specs.declared.Tally.{Tally}
 use Rattle.rule.specs.declared.Written.{Written}
 use Rattle.rule.specs.Answers.{number, place}
 use Rattle.rule.specs.Bytes.{recordsOf}
-use Rattle.rule.specs.Calls.{Verdict, accepted, counted, isHeld, kept, late, lateOutcome, loaded, lookupOutcome, nextOutcome, opened, refused, rowOutcome, saveOutcome}
+use Rattle.rule.specs.Calls.{Verdict, accepted, counted, isHeld, late, lateOutcome, loaded, lookupOutcome, nextOutcome, opened, refused, rowOutcome, saveOutcome}
 use Rattle.rule.specs.Files.{FirstBroken, meets}
-use Rattle.rule.specs.Numbers.{most, recordWidth, slotWidth, tallyMost, ticks}
-use Rattle.rule.specs.Room.{sound, tableOf}
-use Rattle.rule.specs.Rules.{Fault, fault, firstFault, ruled, whole}
-use Rattle.rule.specs.Table.{accept, holding, limit, needed, nextTick, runs}
+use Rattle.rule.specs.Room.{allOf, signed, sound, tableOf}
+use Rattle.rule.specs.Rules.{Fault, fault, firstFault, ruled, rules, whole}
+use Rattle.rule.specs.Table.{accept, holding, nextTick, runs}
 use Rattle.row.specs.Parts.{numbersOutcome}
 
 -- ---- the table, call by call, in the orders of document 01
+-- Document 01's numbers stand here as it writes them and not by the names that the definitions have for them, so that a wrong number there does not pass.
 
 -- a row: a refusal's number and place, and whether it is due
 pub record Row : Type 0 where
@@ -43,40 +44,48 @@ firstOf (r ∷ rs) = cond (r .due) (some (r .number, r .place)) (firstOf rs)
 
 -- 0 or above 256
 unfoldable pub outside : ℕ → Bool
-outside n = eqb n 0 || ltb most n
+outside n = eqb n 0 || ltb 256 n
 
 -- the index of the first record that breaks a rule
 unfoldable pub indexOf : Fault → ℕ
 indexOf whole = 0
 indexOf (fault i r) = i
 
+-- at most 2B steps, late one more for each of so many runs
+abbrev pub mostSteps : Settings → ℕ → ℕ
+mostSteps g runs = 2 * g .steps + cond (late (g .kind)) runs 0
+
+-- the slots that a trace needs, by K
+abbrev pub slotsNeeded : Settings → ℕ
+slotsNeeded g = mostSteps g (g .gaps) + 1
+
 abbrev pub openRows : Settings → List ℤ → List Row
 openRows g l =
     row 1 (outside (g .steps))
     ∷ row 2 (late (g .kind) && outside (g .gaps))
-    ∷ row 3 (ltb (length l) (slotWidth * needed (kept g)))
+    ∷ row 3 (ltb (length l) (4 * slotsNeeded g))
     ∷ []
 
 abbrev pub fileRows : Settings → List ℕ → List Row
 fileRows g file =
-    row 7 (not (eqb (length file % recordWidth) 0))
+    row 7 (not (eqb (length file % 16) 0))
     ∷ record { number = 8; place = indexOf (firstFault (g .kind) 0 0 (recordsOf file)); due = not (ruled (g .kind) (recordsOf file)) }
     ∷ row 9 (late (g .kind) && ltb (g .gaps) (runs (recordsOf file)))
-    ∷ row 10 (ltb (limit g (runs (recordsOf file))) (length (recordsOf file)))
+    ∷ row 10 (ltb (mostSteps g (runs (recordsOf file))) (length (recordsOf file)))
     ∷ []
 
 abbrev pub nextRows : State → List ℤ → List Row
 nextRows s l =
     row 4 (not (sound s l))
     ∷ row 5 (late (s .settings .kind))
-    ∷ row 6 (leb ticks (nextTick (tableOf s l)))
+    ∷ row 6 (leb 16777216 (nextTick (tableOf s l)))
     ∷ []
 
 abbrev pub lateRows : State → List ℤ → ℕ → ℤ → List Row
 lateRows s l tick v =
     row 4 (not (sound s l))
     ∷ row 5 (not (late (s .settings .kind)))
-    ∷ row 6 (leb ticks tick)
+    ∷ row 6 (leb 16777216 tick)
     ∷ row 11 (isHeld (holding tick (tableOf s l)))
     ∷ row 9 (ltb (s .settings .gaps) (runs (accept (s .settings) (tableOf s l) tick v)))
     ∷ []
@@ -84,7 +93,7 @@ lateRows s l tick v =
 abbrev pub lookupRows : State → List ℤ → ℕ → List Row
 lookupRows s l tick =
     row 4 (not (sound s l))
-    ∷ row 6 (leb ticks tick)
+    ∷ row 6 (leb 16777216 tick)
     ∷ row 12 (not (isHeld (holding tick (tableOf s l))))
     ∷ []
 
@@ -109,6 +118,17 @@ unfoldable pub saidWritten : Written → Option (ℕ × ℕ)
 saidWritten (Written.Refused r) = some (number r, place r)
 saidWritten (Written.Buckets n) = none
 
+-- ---- the record rules
+
+-- a record whose bucket is b, behind one that ends at e
+pub record Lawful (k : Kind) (e : ℕ) (b : Bucket) : Type 0 where
+  pub count : 1 ≤ b .count
+  pub inside : b .start + b .count ≤ 16777216
+  pub ordered : leZ (b .least) (b .largest) ≡ true
+  pub alone : b .count ≡ 1 → b .least ≡ b .largest
+  pub in-order : late k ≡ false → b .start ≡ e
+  pub not-below : late k ≡ true → e ≤ b .start
+
 -- ---- the demand
 
 -- A call is refused where a row is due, with the first that is, and answered where none is. A refusal leaves what was lent as it stood; the state is passed by value.
@@ -123,12 +143,19 @@ pub record Demand1 : Type 0 where
   pub lookups : (s : State) (l : List ℤ) (tick : ℕ) → saidFound (lookupOutcome s l tick) ≡ firstOf (lookupRows s l tick)
   pub rows : (s : State) (l : List ℤ) (out : List Bucket) → let o = rowOutcome s l out in Answered (saidWritten (o .0)) (writeRows s l (length out) (s .used)) out (o .1)
   -- the row in numbers, four to a bucket
-  pub numbers : (s : State) (l : List ℤ) (out : List ℤ) → let o = numbersOutcome s l out in Answered (saidWritten (o .0)) (writeRows s l (length out) (slotWidth * s .used)) out (o .1)
-  pub saves : (s : State) (l : List ℤ) (out : List ℕ) → let o = saveOutcome s l out in Answered (saidWritten (o .0)) (writeRows s l (length out) (recordWidth * s .used)) out (o .1)
+  pub numbers : (s : State) (l : List ℤ) (out : List ℤ) → let o = numbersOutcome s l out in Answered (saidWritten (o .0)) (writeRows s l (length out) (4 * s .used)) out (o .1)
+  pub saves : (s : State) (l : List ℤ) (out : List ℕ) → let o = saveOutcome s l out in Answered (saidWritten (o .0)) (writeRows s l (length out) (16 * s .used)) out (o .1)
   pub loads : (g : Settings) (file : List ℕ) (l : List ℤ) → let o = loaded g file l in Answered (said (o .0)) (openRows g l ++ fileRows g file) l (o .1)
   -- 8: the record at its place is the file's, it breaks a rule, and all before it meet them; and it is due wherever a record breaks one
   pub places : (g : Settings) (file : List ℕ) (l : List ℤ) (i : ℕ) → said (loaded g file l .0) ≡ some (8, i) → FirstBroken (g .kind) file i
-  pub breaks : (k : Kind) (file : List ℕ) (i : ℕ) → i < length file / recordWidth → meets k file i ≡ false → ruled k (recordsOf file) ≡ false
+  pub breaks : (k : Kind) (file : List ℕ) (i : ℕ) → i < length file / 16 → meets k file i ≡ false → ruled k (recordsOf file) ≡ false
+  -- the record rules, in 01's words
+  pub rules : (k : Kind) (e : ℕ) (b : Bucket) → (allOf (rules k e b) ≡ true → Lawful k e b) × (Lawful k e b → allOf (rules k e b) ≡ true)
+  -- slots past the needed number are never written
+  pub past-open : (g : Settings) (l : List ℤ) → drop (4 * slotsNeeded g) (opened g l .1) ≡ drop (4 * slotsNeeded g) l
+  pub past-next : (s : State) (l : List ℤ) (v : ℤ) → signed v ≡ true → drop (4 * slotsNeeded (s .settings)) (nextOutcome s l v .1) ≡ drop (4 * slotsNeeded (s .settings)) l
+  pub past-late : (s : State) (l : List ℤ) (tick : ℕ) (v : ℤ) → signed v ≡ true → drop (4 * slotsNeeded (s .settings)) (lateOutcome s l tick v .1) ≡ drop (4 * slotsNeeded (s .settings)) l
+  pub past-load : (g : Settings) (file : List ℕ) (l : List ℤ) → drop (4 * slotsNeeded g) (loaded g file l .1) ≡ drop (4 * slotsNeeded g) l
   -- the one thing that a refused reading changes
   pub tally : (t : Tally) (used : ℕ) (o : Verdict State) (r : ℕ × ℕ) → said o ≡ some r
-      → counted t used o ≡ record { accepted = t .accepted; refused = min (t .refused + 1) tallyMost; merges = t .merges }
+      → counted t used o ≡ record { accepted = t .accepted; refused = min (t .refused + 1) 4294967295; merges = t .merges }

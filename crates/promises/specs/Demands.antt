@@ -12,10 +12,11 @@ use Rattle.rule.specs.declared.State.{State}
 use Rattle.rule.specs.Bucket.{distance, error, level}
 use Rattle.rule.specs.Calls.{kept, late, lookupOutcome}
 use Rattle.rule.specs.Room.{sound, tableOf}
-use Rattle.rule.specs.Table.{holders, limit, nextTick, worst}
+use Rattle.rule.specs.Table.{holders, holds, nextTick, worst}
 use Rattle.demands.specs.Curve.{Curve, steps}
 use Rattle.demands.specs.History.{Reading, arrived, runsOf, tableAfter}
 use Rattle.demands.specs.Served.{Extremes, Near}
+use Rattle.promises.specs.Answered.{mostSteps}
 
 -- lookup itself answers, at the reading's tick, a level within E of the reading
 pub record Seen (E : ℕ) (s : State) (l : List ℤ) (r : Reading) : Type 0 where
@@ -27,14 +28,19 @@ pub record Seen (E : ℕ) (s : State) (l : List ℤ) (r : Reading) : Type 0 wher
 pub record Kept (g : Settings) (rs : List Reading) (s : State) (l : List ℤ) : Type 0 where
   -- the kind, B and K named at the opening are those of the state, K in order but for being kept as 0
   pub named : s .settings ≡ kept g
+  pub kind-named : s .settings .kind ≡ g .kind
+  pub steps-named : s .settings .steps ≡ g .steps
+  pub gaps-named : s .settings .gaps ≡ cond (late (g .kind)) (g .gaps) 0
   -- refusal 4 is never met
   pub fit : sound s l ≡ true
   -- demand 2: the buckets are those of the rule applied to the accepted readings
   pub buckets : tableOf s l ≡ tableAfter (kept g) rs
   -- demand 3: against every curve of at most B flat steps, by lookup itself
   pub picture : (c : Curve) (E : ℕ) → steps c ≤ g .steps → Near E c rs → ((r : Reading) → List·Memᴰ r rs → Seen E s l r) × (worst (tableOf s l) ≤ E)
+  -- lookup shows, at each tick, the level, error, least and largest of the bucket that holds it
+  pub lookups : (tick : ℕ) (b : Bucket) → List·Memᴰ b (tableOf s l) → holds tick b ≡ true → lookupOutcome s l tick ≡ Found.Level (level b) (error b) (b .least) (b .largest)
   -- at most 2B steps, late one more for each unbroken run of the arrived ticks
-  pub size : s .used ≤ limit g (runsOf rs)
+  pub size : s .used ≤ mostSteps g (runsOf rs)
   -- the state's runs are those of the arrived ticks, and its readings are the accepted ones
   pub runs : s .runs ≡ runsOf rs
   pub readings : s .readings ≡ length rs

@@ -1,5 +1,5 @@
 -- The demands of the exported functions, for a stranger who calls them from C: what each answers and leaves, and what any sequence of them keeps.
-use Prim.Native.Nat.{ℕ, _*_, _/_, _≤_}
+use Prim.Native.Nat.{ℕ, suc, _*_, _/_, _≤_}
 use mathlib.Core.Path.{_≡_}
 use mathlib.Core.Logic.{_≢_}
 use mathlib.Core.Bool.{true, false, cond}
@@ -7,13 +7,14 @@ use mathlib.Core.List.{List, [], _∷_, _++_, List·Memᴰ}
 use lib.Dec.{leb}
 use lib.IntN.{ℤ, pos}
 use lib.ListN.{drop, length, take}
-use Rattle.rule.specs.Bucket.{distance}
+use Rattle.rule.specs.declared.Bucket.{Bucket}
+use Rattle.rule.specs.declared.Kind.the-variants.{InOrder, Late}
+use Rattle.rule.specs.Bucket.{distance, error, level}
 use Rattle.rule.specs.Bytes.{saved}
-use Rattle.rule.specs.Calls.{gapsKept, kept}
+use Rattle.rule.specs.Calls.{kept, late}
 use Rattle.rule.specs.Files.{FirstBroken}
-use Rattle.rule.specs.Numbers.{recordWidth, slotWidth, ticks}
 use Rattle.rule.specs.Room.{flat, signed, sound}
-use Rattle.rule.specs.Table.{Table, limit, needed}
+use Rattle.rule.specs.Table.{Table, holds}
 use Rattle.saved.specs.Bytes.{AllBytes}
 use Rattle.demands.specs.Curve as curve
 use Rattle.demands.specs.Curve.{Curve}
@@ -24,8 +25,9 @@ use Rattle.ndezulangi.specs.declared.Fields.{Fields}
 use Rattle.ndezulangi.specs.declared.Reply.{Reply}
 use Rattle.ndezulangi.specs.declared.Shown.{Shown}
 use Rattle.ndezulangi.specs.Plain.{fieldsOf, kindOf, lateReply, loadReply, lookupReply, nextReply, none, numberOf, openReply, rowReply, saveReply, settingsOf, stateFrom}
-use Rattle.promises.specs.Answered.{Row, fileRows, lateRows, lookupRows, nextRows, openRows, writeRows}
+use Rattle.promises.specs.Answered.{Row, fileRows, lateRows, lookupRows, mostSteps, nextRows, openRows, slotsNeeded, writeRows}
 use Rattle.promises.specs.Demands.{Kept}
+use Rattle.promises.specs.Reached.{SameSettings}
 
 -- ---- demand 1, by the rows of the table in Answered.antt
 
@@ -56,13 +58,15 @@ pub record ExportedDemand1 : Type 0 where
   pub lates : (f : Fields) (l : List ℤ) (tick : ℕ) (v : ℤ) → let o = lateReply f l tick v in Replies (lateRows (stateFrom f) l tick v) f l (o .1) (o .0)
   pub lookups : (f : Fields) (l : List ℤ) (tick : ℕ) → Shows (lookupRows (stateFrom f) l tick) (lookupReply f l tick)
   -- four numbers a bucket
-  pub rows : (f : Fields) (l : List ℤ) (out : List ℤ) → let o = rowReply f l out in Counts (writeRows (stateFrom f) l (length out) (slotWidth * f .used)) out (o .1) (o .0)
+  pub rows : (f : Fields) (l : List ℤ) (out : List ℤ) → let o = rowReply f l out in Counts (writeRows (stateFrom f) l (length out) (4 * f .used)) out (o .1) (o .0)
   -- sixteen bytes a bucket
-  pub saves : (f : Fields) (l : List ℤ) (out : List ℕ) → let o = saveReply f l out in Counts (writeRows (stateFrom f) l (length out) (recordWidth * f .used)) out (o .1) (o .0)
+  pub saves : (f : Fields) (l : List ℤ) (out : List ℕ) → let o = saveReply f l out in Counts (writeRows (stateFrom f) l (length out) (16 * f .used)) out (o .1) (o .0)
   pub loads : (kind steps gaps : ℕ) (file : List ℕ) (l : List ℤ) → let o = loadReply kind steps gaps file l in
       Replies (openRows (settingsOf kind steps gaps) l ++ fileRows (settingsOf kind steps gaps) file) none l (o .1) (o .0)
   -- 8: the record at its place is the file's, it breaks a rule, and all before it meet them
   pub places : (kind steps gaps : ℕ) (file : List ℕ) (l : List ℤ) → let r = loadReply kind steps gaps file l .0 in r .refusal ≡ 8 → FirstBroken (kindOf kind) file (r .place)
+  -- kind 0 is in order, any other late
+  pub kinds : (kindOf 0 ≡ InOrder) × ((n : ℕ) → kindOf (suc n) ≡ Late)
   -- the zeros that a refused open or load hands back are sound in no room, so no call accepts them
   pub unsound : (l : List ℤ) → sound (stateFrom none) l ≡ false
   pub unusable : (l : List ℤ) (tick : ℕ) (v : ℤ) (out : List ℤ) (bytes : List ℕ)
@@ -89,8 +93,8 @@ pub data Called (kind steps gaps : ℕ) : List Reading → Fields → List ℤ �
   load-refused : {rs : List Reading} {f : Fields} {l m : List ℤ} {r : Reply} (k b g : ℕ) (file : List ℕ) → Called kind steps gaps rs f l → loadReply k b g file l ≡ (r, m) → r .refusal ≢ 0 → Called kind steps gaps rs f m
   -- saved into any output, and the bytes that were written loaded into any room by the same numbers: late any kind but 0 is the same, and in order any gaps
   loads : {rs : List Reading} {f : Fields} {l m : List ℤ} {c : Counted} {written : List ℕ} {r : Reply} (out : List ℕ) (room : List ℤ) (k b g : ℕ)
-      → kept (settingsOf k b g) ≡ kept (settingsOf kind steps gaps) → Called kind steps gaps rs f l → saveReply f l out ≡ (c, written) → c .refusal ≡ 0
-      → loadReply k b g (take (recordWidth * c .buckets) written) room ≡ (r, m) → r .refusal ≡ 0 → Called kind steps gaps rs (r .state) m
+      → SameSettings (settingsOf k b g) (settingsOf kind steps gaps) → Called kind steps gaps rs f l → saveReply f l out ≡ (c, written) → c .refusal ≡ 0
+      → loadReply k b g (take (16 * c .buckets) written) room ≡ (r, m) → r .refusal ≡ 0 → Called kind steps gaps rs (r .state) m
 
 -- ndz_lookup at the reading's tick is not refused: its level is within E of the reading, and its error is at most E
 pub record Within (E : ℕ) (f : Fields) (l : List ℤ) (r : Reading) : Type 0 where
@@ -115,23 +119,26 @@ pub record Promised (kind steps gaps : ℕ) (rs : List Reading) (f : Fields) (l 
   -- the numbers named at the opening: a late kind is 1, and in order K is kept as 0
   pub kind-named : f .kind ≡ numberOf (kindOf kind)
   pub steps-named : f .steps ≡ steps
-  pub gaps-named : f .gaps ≡ gapsKept (kindOf kind) gaps
+  pub gaps-named : f .gaps ≡ cond (late (kindOf kind)) gaps 0
   -- at most 2B steps, late one more for each unbroken run
-  pub size : f .used ≤ limit (settingsOf kind steps gaps) (runsOf rs)
+  pub size : f .used ≤ mostSteps (settingsOf kind steps gaps) (runsOf rs)
   pub runs : f .runs ≡ runsOf rs
   pub readings : f .readings ≡ length rs
   -- demand 2: ndz_row and ndz_save write the buckets of the rule, where the output is long enough, and nothing behind them
-  pub row : (out : List ℤ) → slotWidth * f .used ≤ length out → rowReply f l out ≡ (wroteAll (f .used), flat (bucketsOf kind steps gaps rs) ++ drop (slotWidth * f .used) out)
-  pub save : (out : List ℕ) → recordWidth * f .used ≤ length out → saveReply f l out ≡ (wroteAll (f .used), saved (bucketsOf kind steps gaps rs) ++ drop (recordWidth * f .used) out)
+  pub row : (out : List ℤ) → 4 * f .used ≤ length out → rowReply f l out ≡ (wroteAll (f .used), flat (bucketsOf kind steps gaps rs) ++ drop (4 * f .used) out)
+  pub save : (out : List ℕ) → 16 * f .used ≤ length out → saveReply f l out ≡ (wroteAll (f .used), saved (bucketsOf kind steps gaps rs) ++ drop (16 * f .used) out)
   -- and ndz_load of these bytes by the same numbers, into any room that is long enough, hands back the same state
-  pub load : (k b g : ℕ) (room : List ℤ) → kept (settingsOf k b g) ≡ kept (settingsOf kind steps gaps) → slotWidth * needed (kept (settingsOf kind steps gaps)) ≤ length room
+  pub load : (k b g : ℕ) (room : List ℤ) → SameSettings (settingsOf k b g) (settingsOf kind steps gaps) → 4 * slotsNeeded (settingsOf kind steps gaps) ≤ length room
       → loadReply k b g (saved (bucketsOf kind steps gaps rs)) room .0 ≡ record { refusal = 0; place = 0; state = f }
   -- demand 3: against every curve of at most as many flat steps as named, by ndz_lookup itself
   pub picture : (c : Curve) (E : ℕ) → curve.steps c ≤ steps → Near E c rs → (r : Reading) → List·Memᴰ r rs → Within E f l r
+  -- which shows, at each tick, the level, error, least and largest of the bucket that holds it
+  pub lookups : (tick : ℕ) (b : Bucket) → List·Memᴰ b (bucketsOf kind steps gaps rs) → holds tick b ≡ true
+      → lookupReply f l tick ≡ record { refusal = 0; place = 0; level = level b; error = error b; least = b .least; largest = b .largest }
   -- ndz_lookup shows exactly the ticks of the accepted readings: any other is refused, above the last tick by 6 and else by 12
-  pub covers : (tick : ℕ) → lookupReply f l tick .refusal ≡ cond (arrived tick rs) 0 (cond (leb ticks tick) 6 12)
+  pub covers : (tick : ℕ) → lookupReply f l tick .refusal ≡ cond (arrived tick rs) 0 (cond (leb 16777216 tick) 6 12)
 
 -- demand 2 of bytes from anywhere: what ndz_load accepts, ndz_save writes, and nothing behind it
 pub record ExportedDemand2 : Type 0 where
   pub same-bytes : (kind steps gaps : ℕ) (file out : List ℕ) (l : List ℤ) → AllBytes file → length file ≤ length out → let o = loadReply kind steps gaps file l in o .0 .refusal ≡ 0
-      → saveReply (o .0 .state) (o .1) out ≡ (wroteAll (length file / recordWidth), file ++ drop (length file) out)
+      → saveReply (o .0 .state) (o .1) out ≡ (wroteAll (length file / 16), file ++ drop (length file) out)

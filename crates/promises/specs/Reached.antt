@@ -8,12 +8,17 @@ use lib.ListN.{take}
 use Rattle.rule.specs.declared.Refusal.{Refusal}
 use Rattle.rule.specs.declared.Settings.{Settings}
 use Rattle.rule.specs.declared.State.{State}
-use Rattle.rule.specs.Numbers.{recordWidth}
 use Rattle.rule.specs.declared.Written.{Written}
-use Rattle.rule.specs.Calls.{refused, accepted, kept, lateOutcome, loaded, nextOutcome, opened, saveOutcome}
+use Rattle.rule.specs.Calls.{refused, accepted, late, lateOutcome, loaded, nextOutcome, opened, saveOutcome}
 use Rattle.rule.specs.Room.{signed, tableOf}
 use Rattle.rule.specs.Table.{nextTick}
 use Rattle.demands.specs.History.{Reading}
+
+-- the same settings, in order with any K
+pub record SameSettings (h g : Settings) : Type 0 where
+  pub kind : h .kind ≡ g .kind
+  pub steps : h .steps ≡ g .steps
+  pub gaps : late (g .kind) ≡ true → h .gaps ≡ g .gaps
 
 -- opened with the settings g, the state is s and the room holds l after the accepted readings rs, newest first
 pub data Reached (g : Settings) : List Reading → State → List ℤ → Type 0 where
@@ -30,5 +35,5 @@ pub data Reached (g : Settings) : List Reading → State → List ℤ → Type 0
   open-refused : {rs : List Reading} {s : State} {l m : List ℤ} {r : Refusal} (h : Settings) → Reached g rs s l → opened h l ≡ (refused r, m) → Reached g rs s m
   load-refused : {rs : List Reading} {s : State} {l m : List ℤ} {r : Refusal} (h : Settings) (file : List ℕ) → Reached g rs s l → loaded h file l ≡ (refused r, m) → Reached g rs s m
   -- saved by the call into any output, and the bytes that it wrote loaded into any room with the same settings, in order with any K
-  loads : {rs : List Reading} {s t : State} {l m : List ℤ} {written : List ℕ} {n : ℕ} (out : List ℕ) (room : List ℤ) (h : Settings) → kept h ≡ kept g → Reached g rs s l
-      → saveOutcome s l out ≡ (Written.Buckets n, written) → loaded h (take (recordWidth * n) written) room ≡ (accepted t, m) → Reached g rs t m
+  loads : {rs : List Reading} {s t : State} {l m : List ℤ} {written : List ℕ} {n : ℕ} (out : List ℕ) (room : List ℤ) (h : Settings) → SameSettings h g → Reached g rs s l
+      → saveOutcome s l out ≡ (Written.Buckets n, written) → loaded h (take (16 * n) written) room ≡ (accepted t, m) → Reached g rs t m

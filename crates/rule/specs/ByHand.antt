@@ -14,7 +14,8 @@ use Rattle.rule.specs.Numbers.{slotWidth}
 use Rattle.rule.specs.Answers.{number}
 use Rattle.rule.specs.Bucket.{level, error}
 use Rattle.rule.specs.Table.{Table, needed, worst}
-use Rattle.rule.specs.Room.{numbers, tableOf}
+use Rattle.rule.specs.Room.{tableOf}
+use Rattle.rule.specs.Bytes.{recordAt, savedRecord}
 use Rattle.rule.specs.Calls.{Verdict, refused, accepted, opened, nextOutcome, lateOutcome, saveOutcome}
 
 -- a trace between two calls: the last answer, and the room
@@ -59,7 +60,7 @@ leaves s t used runs readings free =
   where
     numbersOf : Table → List ℤ
     numbersOf [] = []
-    numbersOf (b ∷ t) = numbers b ++ numbersOf t
+    numbersOf (b ∷ t) = pos (b .start) ∷ pos (b .count) ∷ b .least ∷ b .largest ∷ numbersOf t
 
 abbrev pub bucket : ℕ → ℕ → ℤ → ℤ → Bucket
 bucket start count least largest = record { start = start; count = count; least = least; largest = largest }
@@ -88,6 +89,13 @@ lengthened =
     leaves (gappy 1 2)
     (bucket 0 3 (pos 1) (pos 4) ∷ bucket 3 2 (pos 8) (pos 9) ∷ bucket 5 2 (pos 2) (pos 3) ∷ bucket 8 1 (pos 0) (pos 0) ∷ []) 4 2 8 1
 
+-- 0x00010203, 0x00040506, minus 0x00010203, 0x01020304
+abbrev pub unlike : Bucket
+unlike = bucket 66051 263430 (negsuc 66050) (pos 16909060)
+
+abbrev pub unlikeBytes : List ℕ
+unlikeBytes = 3 ∷ 2 ∷ 1 ∷ 0 ∷ 6 ∷ 5 ∷ 4 ∷ 0 ∷ 253 ∷ 253 ∷ 254 ∷ 255 ∷ 4 ∷ 3 ∷ 2 ∷ 1 ∷ []
+
 pub record ByHand : Type 0 where
   pub h1 : start (inOrder 1) ≡ leaves (inOrder 1) [] 0 0 0 3
   pub h1-worst : worstOf (start (inOrder 1)) ≡ 0
@@ -109,3 +117,6 @@ pub record ByHand : Type 0 where
   pub h11-refused : feedLate ((10, pos 0) ∷ []) lengthened ≡ (refused Refusal.Runs, lengthened .1)
   pub h11-number : number Refusal.Runs ≡ 9
   pub h12 : saves (feedLate ((3, negsuc 1) ∷ []) (start (gappy 1 1))) (replicate 17 7) ≡ (Written.Buckets 1, 3 ∷ 0 ∷ 0 ∷ 0 ∷ 1 ∷ 0 ∷ 0 ∷ 0 ∷ 254 ∷ 255 ∷ 255 ∷ 255 ∷ 254 ∷ 255 ∷ 255 ∷ 255 ∷ 7 ∷ [])
+  -- beyond document 01's own: a record in which each byte tells its place, so that no two fields or bytes can be exchanged
+  pub every-byte : savedRecord unlike ≡ unlikeBytes
+  pub every-byte-read : recordAt unlikeBytes 0 ≡ unlike

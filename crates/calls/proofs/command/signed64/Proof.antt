@@ -1,9 +1,8 @@
 -- `calls::command::signed64` meets its contract: what is turned over fits.
 use Prim.Native.Nat.{_-_}
 use borrow.Author.Needs.{needs}
-use mir.Syntax.{w64}
 use mir.Facts.{sfits-toZ}
-use Rattle.calls.proofs.Complement.{turned-fits}
+use Rattle.rule.proofs.Signed.{turned-fits}
 use Rattle.calls.proofs.command.signed64.Statement.{statement}
 use Rattle.calls.proofs.command.signed64.Tie as tie
 
@@ -17,7 +16,7 @@ cast-result-2 : tie.Need-cast-result-2
 cast-result-2 c = search needs
 
 sub-result-2 : tie.Need-sub-result-2
-sub-result-2 c = turned-fits w64 _ (sfits-toZ {n = 18446744073709551615 - c .before .args .bits} (search needs))
+sub-result-2 c = turned-fits _ (sfits-toZ {n = 18446744073709551615 - c .before .args .bits} (search needs))
 
 returns : tie.Need-returns
 returns c = search needs

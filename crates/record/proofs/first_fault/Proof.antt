@@ -45,7 +45,7 @@ loop-less c = omega arith
 loop-again : tie.Need-loop-again Inv-loop μ-loop Inv-records μ-records
 loop-again c =
     let here = c .before .before .before .loop in
-    one-more _ _ _ (here .rule) (c .before .before .loop-test .taken) (here .inv) (sym (c .before .meets .ensures) ∙ not-false _ (c .if2 .left))
+    one-more _ _ _ (here .rule) (omega arith) (here .inv) (sym (c .before .meets .ensures) ∙ not-false _ (c .if2 .left))
 
 end-requires : tie.Need-end-requires Inv-loop μ-loop Inv-records μ-records
 end-requires c κs = search needs
@@ -65,7 +65,7 @@ records-again c =
     rw (c .end .ensures)
     (sym
     (scan-next (start .args .kind) (now (start .args .file)) _ (here .end) (here .i) (read .result) (read .ensures) more
-    (all-met _ _ _ (c .before .before .loop .rule) (c .before .loop-test .left) (c .before .before .loop .inv)))
+    (all-met _ _ _ (c .before .before .loop .rule) (omega arith) (c .before .before .loop .inv)))
     ∙ here .inv)
 
 returns : tie.Need-returns Inv-loop μ-loop Inv-records μ-records

@@ -8,7 +8,7 @@ use native.Mathlib.Numerals.{add-one}
 use native.Mathlib.Omega.{arith}
 use borrow.Author.Tests.{le-ltb, lt-ltb, ltb-false, ltb-true}
 use lib.Dec.{ltb}
-use lib.IntN.{ℤ, pos, negsuc, natAbs, _+ℤ_}
+use lib.IntN.{ℤ, pos, negsuc, natAbs}
 use lib.ListN.{length, getD, set, take, drop, drop-of-length-le, length-append}
 use lib.Seq.{drop-cons, length-sets, sets, sets-eq}
 use lib.Signed.{ltZ}
@@ -16,16 +16,13 @@ use mir.Syntax.{w32}
 use mir.Val.{SFits}
 use Rattle.rule.specs.declared.Bucket.{Bucket}
 use Rattle.rule.specs.Numbers.{word}
-use Rattle.rule.specs.Bucket.{level, middle}
-use Rattle.rule.proofs.Whole.{by-test, middle-down, middle-up, one-side, sum}
+use Rattle.rule.specs.Bucket.{level}
+use Rattle.rule.proofs.Signed.{middle-fits}
+use Rattle.rule.proofs.Stores.{sets-append}
+use Rattle.rule.proofs.Whole.{by-test}
 use Rattle.rule.proofs.Whole.{whole as wholes}
 use Rattle.printing.specs.Signs.{minus}
 use Rattle.printing.specs.Printing.{Printed, decimal, decimalIn, digit, line, lineRoom, refused, row, total, whole}
-
-sets-append : (l : List ℕ) (i : ℕ) (a b : List ℕ) → sets (sets l i a) (i + length a) b ≡ sets l i (a ++ b)
-sets-append l i [] b = rw (add-zero i)
-sets-append l i (x ∷ a) b =
-    let e : i + suc (length a) ≡ suc i + length a = omega arith in rw e (sets-append (set l i x) (suc i) a b)
 
 -- a text stored byte by byte
 module _ (o : List ℕ) (at : ℕ) (s : List ℕ) where
@@ -105,9 +102,6 @@ field-room f e k room h g x = room-left (suc k) room (omega (arith, length-appen
 
 -- ---- a line of the listing has room
 
-level-fits : {a b : ℤ} → SFits w32 a → SFits w32 b → SFits w32 (middle a b)
-level-fits {a} {b} fits-a fits-b = omega (wholes, middle-up a b, middle-down a b, sum a b, one-side (a +ℤ b))
-
 pub row-short : (b : Bucket) → b .start < word → b .count < word → SFits w32 (b .least) → SFits w32 (b .largest) → length (row b) ≤ lineRoom
 unfolding row line
 row-short b start count least largest =
@@ -118,7 +112,7 @@ row-short b start count least largest =
       short 9 (b .count) (omega arith),
       whole-short (b .least) least,
       whole-short (b .largest) largest,
-      whole-short (level b) (level-fits least largest),
+      whole-short (level b) (middle-fits least largest),
     ))
 
 pub total-short : (readings buckets worst : ℕ) → readings < 2 ^ 64 → buckets < 2 ^ 64 → worst < word → length (total readings buckets worst) ≤ lineRoom

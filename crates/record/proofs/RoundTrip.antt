@@ -1,11 +1,11 @@
 -- A table saved and read again, a file read and saved again, and a table saved record by record.
 use Prim.Native.Nat.{ℕ, zero, suc, _+_, _*_, _/_, _%_, _≤_, _<_}
-use mathlib.Core.Path.{_≡_, refl}
+use mathlib.Core.Path.{_≡_, refl, sym}
 use mathlib.Core.List.{List, [], _∷_, _++_, append-assoc, append-nil}
 use native.Mathlib.Omega.{arith}
-use native.Mathlib.Nat.{add-assoc, add-zero, div-add-mod', div-div-eq-div-mul, mod-eq-of-lt}
+use native.Mathlib.Nat.{add-assoc, div-add-mod', div-div-eq-div-mul, mod-eq-of-lt}
 use native.Mathlib.Numerals.{add-one, add-two, add-three}
-use lib.ListN.{length, getD, set, take, drop, length-append, length-drop, take-append-drop}
+use lib.ListN.{length, getD, take, drop, length-append, length-drop, take-append-drop}
 use lib.Seq.{drop-append-add, drop-cons, drop-drop, getD-drop, sets, sets-eq, take-add, take-at}
 use mir.Syntax.{w32}
 use mir.Val.{Fits}
@@ -14,6 +14,7 @@ use Rattle.rule.specs.Numbers.{recordWidth, word}
 use Rattle.rule.specs.Table.{Table}
 use Rattle.rule.specs.Bytes.{bits, bytes, recordAt, records, recordsOf, saved, savedRecord, wordAt}
 use Rattle.rule.proofs.Fitting.{Fitted, Fitting}
+use Rattle.rule.proofs.Stores.{sets-append}
 use Rattle.record.specs.Files.{put}
 use Rattle.record.proofs.Words.{bits-fit, bits-reading, reading-bits, reading-fits}
 
@@ -194,15 +195,10 @@ put-saved t b rest i h = rw (put-at (saved t) rest i b (omega (arith, length-sav
 
 -- ---- word by word
 
-sets-append : (xs ys l : List ℕ) (i : ℕ) → sets l i (xs ++ ys) ≡ sets (sets l i xs) (i + length xs) ys
-sets-append [] ys l i = rw add-zero
-sets-append (x ∷ xs) ys l i =
-    let e : i + suc (length xs) ≡ suc i + length xs = omega arith in rw e (sets-append xs ys (set l i x) (suc i))
-
 -- the four bytes of n from k on, and ys from j on, four further
 four-more : (n k j : ℕ) (ys l : List ℕ) → j ≡ k + 4 → sets l k (bytes n ++ ys) ≡ sets (sets l k (bytes n)) j ys
 unfolding bytes
-four-more n k j ys l h = rw h (sets-append (bytes n) ys l k)
+four-more n k j ys l h = rw h (sym (sets-append l k (bytes n) ys))
 
 pub put-words : (l : List ℕ) (i : ℕ) (b : Bucket) → recordWidth * suc i ≤ length l
     → sets (sets (sets (sets l (recordWidth * i) (bytes (b .start))) (recordWidth * i + 4) (bytes (b .count))) (recordWidth * i + 8) (bytes (bits (b .least)))) (recordWidth * i + 12) (bytes (bits (b .largest)))

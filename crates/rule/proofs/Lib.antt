@@ -5,6 +5,7 @@ pub mod Tables
 pub mod Merging
 pub mod Ruling
 pub mod Signed
+pub mod Stores
 pub mod Fitting
 pub mod ByHand
 pub mod Determined

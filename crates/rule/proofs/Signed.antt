@@ -1,5 +1,5 @@
 -- Signed values as the machine has them: the bits of a width, read back as a whole number.
-use Prim.Native.Nat.{_+_, _≤_, _<_, _^_}
+use Prim.Native.Nat.{ℕ, _+_, _≤_, _<_, _^_}
 use mathlib.Core.Path.{_≡_, sym, ap, _∙_}
 use mathlib.Core.Bool.{true, false, false≢true}
 use native.Mathlib.Omega.{arith}
@@ -13,10 +13,11 @@ use borrow.Author.Tests.{eq-eqb, eqb-true}
 use mir.Syntax.{Width, w32, w64}
 use mir.Val.{Fits, SFits, hbits, toZ, ofZ}
 use mir.Facts.{fits-natAbs, sfits-widen, toZ-ofZ}
-use Rattle.rule.specs.Numbers.{half}
-use Rattle.rule.specs.Room.{signed, within}
+use Rattle.rule.specs.Bucket.{middle}
+use Rattle.rule.specs.Numbers.{half, word}
+use Rattle.rule.specs.Room.{signed, unsigned, within}
 use Rattle.rule.specs.Rules.{equal}
-use Rattle.rule.proofs.Whole.{whole, by-test, down, sum, difference, le-leZ, one-side}
+use Rattle.rule.proofs.Whole.{whole, by-test, down, sum, difference, le-leZ, middle-down, middle-up, one-side}
 use Rattle.rule.proofs.Ruling.{and-both, and-left, and-right}
 
 -- z read from its bits, where its range is told by itself: of a field of a struct, of a call's result
@@ -77,7 +78,7 @@ module _ (w : Width) {a b : ℤ} (fits-a : SFits w a) (fits-b : SFits w b) where
       (λ h. h ∙ sym (equal-same a b (same-bits (eqb-true (ofZ w a) (ofZ w b) h))))
       (λ h. h ∙ sym (equal-other a b (λ e. false≢true (sym h ∙ eq-eqb (ofZ w a) (ofZ w b) (ap (ofZ w) e)))))
 
--- ---- the range of a reading
+-- ---- the ranges of a reading, and of a tick or a count
 
 pub signed-fits : (z : ℤ) → signed z ≡ true → SFits w32 z
 unfolding within
@@ -87,6 +88,18 @@ signed-fits z e =
 pub fits-signed : (z : ℤ) → SFits w32 z → signed z ≡ true
 unfolding within
 fits-signed z h = and-both {a = leZ (negℤ (pos half)) z} {b = ltZ z (pos half)} (omega whole) (omega whole)
+
+pub middle-fits : {a b : ℤ} → SFits w32 a → SFits w32 b → SFits w32 (middle a b)
+middle-fits {a} {b} fits-a fits-b = omega (whole, middle-up a b, middle-down a b, sum a b, one-side (a +ℤ b))
+
+pub unsigned-fits : (z : ℤ) → unsigned z ≡ true → T (nonNeg z) × Fits w32 (natAbs z)
+unfolding within
+unsigned-fits (pos n) e = (tt, omega (whole, and-right (leZ (pos 0) (pos n)) (ltZ (pos n) (pos word)) e))
+unsigned-fits (negsuc n) e = absurd (false≢true e)
+
+pub fits-unsigned : (n : ℕ) → n < word → unsigned (pos n) ≡ true
+unfolding within
+fits-unsigned n h = and-both {a = leZ (pos 0) (pos n)} {b = ltZ (pos n) (pos word)} (omega whole) (omega whole)
 
 -- ---- one below the opposite, which has a number's bits turned over in two's complement
 

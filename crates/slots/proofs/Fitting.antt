@@ -1,5 +1,5 @@
 -- The buckets that ranged slots hold have their numbers in their fields' ranges; slots laid of such buckets are filled.
-use Prim.Native.Nat.{ℕ, zero, suc, _*_, _-_, _≤_, _<_}
+use Prim.Native.Nat.{ℕ, zero, suc, _*_, _-_, _≤_}
 use mathlib.Core.Path.{_≡_, refl, _∙_}
 use mathlib.Core.Bool.{true}
 use mathlib.Core.List.{List, [], _∷_, _++_}
@@ -7,17 +7,15 @@ use native.Mathlib.Omega.{arith}
 use native.Mathlib.Nat.{add-zero}
 use lib.IntN.{ℤ, pos}
 use lib.ListN.{length, drop}
-use lib.Signed.{leZ, ltZ}
-use Rattle.rule.specs.Numbers.{slotWidth, word}
-use Rattle.rule.specs.Room.{flat, laid, numbers, ranged, slot, slotRanged, slots, unsigned, within, zeros}
+use Rattle.rule.specs.Numbers.{slotWidth}
+use Rattle.rule.specs.Room.{flat, laid, numbers, ranged, slot, slotRanged, slots, zeros}
 use Rattle.rule.specs.Table.{Table}
-use Rattle.rule.proofs.Whole.{whole}
 use Rattle.rule.proofs.Fitting.{Fitted, Fitting}
-use Rattle.rule.proofs.Signed.{fits-signed, signed-fits}
+use Rattle.rule.proofs.Signed.{fits-signed, fits-unsigned, signed-fits, unsigned-fits}
 use Rattle.slots.specs.Slots.{Filled}
 use Rattle.rule.proofs.Ruling.{and-both, and-left, and-right}
 use Rattle.slots.proofs.Laying.{length-laid, ranged-behind}
-use Rattle.slots.proofs.Reading.{ranges, unsigned-fits}
+use Rattle.slots.proofs.Reading.{ranges}
 
 -- ---- read from ranged slots
 
@@ -34,17 +32,13 @@ fitted-slots l i (suc n) e = (fitting-slot l i (and-left (slotRanged l i) (range
 
 -- ---- laid
 
-unsigned-in : (n : ℕ) → n < word → unsigned (pos n) ≡ true
-unfolding within
-unsigned-in n h = and-both {a = leZ (pos 0) (pos n)} {b = ltZ (pos n) (pos word)} (omega whole) (omega whole)
-
 pub ranged-flat : (t : Table) (r : List ℤ) → Fitted t → ranged (flat t ++ r) 0 (length t) ≡ true
 unfolding Fitted flat ranged slotRanged
 ranged-flat [] r f = refl
 ranged-flat (b ∷ t) r f =
     let g = f .0 in
     and-both
-    (and-both (and-both (and-both (unsigned-in (b .start) (g .start)) (unsigned-in (b .count) (g .count))) (fits-signed (b .least) (g .least))) (fits-signed (b .largest) (g .largest)))
+    (and-both (and-both (and-both (fits-unsigned (b .start) (g .start)) (fits-unsigned (b .count) (g .count))) (fits-signed (b .least) (g .least))) (fits-signed (b .largest) (g .largest)))
     (ranged-behind (numbers b) (flat t ++ r) refl 0 (length t) ∙ ranged-flat t r (f .1))
 
 pub filled-laid : (n : ℕ) (t : Table) (l : List ℤ) → length t ≤ n → slotWidth * n ≤ length l → Fitted t → Filled (laid n t l) (length t)

@@ -1,12 +1,12 @@
 -- What a slot whose numbers lie in their ranges gives the casts that read it, and what the four stores into a slot leave.
 use Prim.Native.Nat.{ℕ, zero, suc, _+_, _*_, _≤_, _<_}
 use mathlib.Core.Path.{_≡_, _∙_}
-use mathlib.Core.Bool.{true, _&&_, false≢true}
+use mathlib.Core.Bool.{true, _&&_}
 use mathlib.Core.List.{List, append-assoc}
 use native.Mathlib.Omega.{arith}
 use native.Mathlib.Nat.{add-zero, zero-add}
 use lib.Dec.{T}
-use lib.IntN.{ℤ, pos, negsuc, natAbs}
+use lib.IntN.{ℤ, pos, natAbs}
 use lib.ListN.{length, getD, set}
 use lib.Seq.{sets-eq}
 use lib.Signed.{leZ, ltZ, nonNeg, pos-natAbs}
@@ -16,6 +16,7 @@ use mir.Facts.{toZ-ofZ}
 use Rattle.rule.specs.declared.Bucket.{Bucket}
 use Rattle.rule.specs.Numbers.{slotWidth, word}
 use Rattle.rule.specs.Room.{field, numbers, ranged, signed, slotRanged, unsigned, within}
+use Rattle.rule.proofs.Signed.{unsigned-fits}
 use Rattle.rule.proofs.Whole.{whole, one-side}
 use Rattle.slots.specs.Slots.{Filled, put}
 use Rattle.rule.proofs.Ruling.{and-left, and-right}
@@ -61,11 +62,6 @@ unsigned-held z e =
     let high : ltZ z (pos word) ≡ true = and-right (leZ (pos 0) z) (ltZ z (pos word)) e in
     let fits : SFits w64 z = omega (whole, one-side z) in
     toZ-ofZ fits
-
-pub unsigned-fits : (z : ℤ) → unsigned z ≡ true → T (nonNeg z) × Fits w32 (natAbs z)
-unfolding within
-unsigned-fits (pos n) e = (tt, omega (whole, and-right (leZ (pos 0) (pos n)) (ltZ (pos n) (pos word)) e))
-unsigned-fits (negsuc n) e = absurd (false≢true e)
 
 pub unsigned-pos : (z : ℤ) → unsigned z ≡ true → pos (natAbs z) ≡ z
 unsigned-pos z e = pos-natAbs z (unsigned-fits z e .0)

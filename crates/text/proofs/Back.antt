@@ -10,15 +10,11 @@ use lib.Dec.{eqb, ltb}
 use lib.IntN.{ℤ, pos, negsuc, natAbs}
 use lib.ListN.{length, getD, length-append}
 use lib.Seq.{drop-append-add, take-append-seam}
-use lib.Signed.{leZ, ltZ}
 use mir.Syntax.{w32}
 use mir.Val.{SFits}
 use Rattle.rule.specs.Numbers.{word}
-use Rattle.rule.specs.Room.{unsigned, within}
-use Rattle.rule.proofs.Ruling.{and-both}
-use Rattle.rule.proofs.Signed.{fits-signed}
+use Rattle.rule.proofs.Signed.{fits-signed, fits-unsigned}
 use Rattle.rule.proofs.Whole.{by-test}
-use Rattle.rule.proofs.Whole.{whole as wholes}
 use Rattle.text.specs.declared.Number.{Number}
 use Rattle.text.specs.declared.Unsigned.{Unsigned}
 use Rattle.text.specs.declared.Signed.{Signed}
@@ -119,9 +115,8 @@ same-first [] (x ∷ w) g h = refl
 same-first (b ∷ l) (x ∷ w) g h = rw (ne-eqb b x h)
 
 unsigned-in : (n : ℕ) → n < word → unsignedField (Number.Whole (pos n)) ≡ Unsigned.Within n
-unfolding within unsignedField
-unsigned-in n h =
-    let e : unsigned (pos n) ≡ true = and-both {a = leZ (pos 0) (pos n)} {b = ltZ (pos n) (pos word)} (omega wholes) (omega wholes) in rw e
+unfolding unsignedField
+unsigned-in n h = rw (fits-unsigned n h)
 
 signed-in : (z : ℤ) → SFits w32 z → signedField (Number.Whole z) ≡ Signed.Within z
 unfolding signedField

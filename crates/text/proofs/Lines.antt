@@ -1,21 +1,20 @@
 -- The loops over a line's bytes go on from what is left of them, and numbers stay within 64 bits.
 use Prim.Native.Nat.{ℕ, suc, _+_, _*_, _-_, _≤_, _<_, _^_}
 use mathlib.Core.Path.{_≡_, refl, ap}
-use mathlib.Core.Bool.{true, false, _&&_, false≢true}
+use mathlib.Core.Bool.{true, false, _&&_}
 use mathlib.Core.List.{List, [], _∷_}
 use native.Mathlib.Nat.{pow-le-pow-right, pow-succ'}
 use native.Mathlib.Numerals.{add-one}
 use native.Mathlib.Omega.{arith}
 use borrow.Author.Tests.{eq-eqb, leb-true, ne-eqb}
-use lib.Dec.{T, eqb, leb, lit<}
-use lib.IntN.{ℤ, pos, negsuc, natAbs}
+use lib.Dec.{eqb, leb, lit<}
+use lib.IntN.{ℤ, pos}
 use lib.ListN.{length, getD, take, drop, drop-of-length-le, length-drop}
 use lib.Seq.{drop-cons, take-all}
-use lib.Signed.{leZ, ltZ, mag, nonNeg}
-use mir.Syntax.{w32, w64}
-use mir.Val.{Fits, ofZ, toZ}
-use Rattle.rule.specs.Numbers.{word}
-use Rattle.rule.specs.Room.{unsigned, within}
+use lib.Signed.{leZ, ltZ, mag}
+use mir.Syntax.{w64}
+use mir.Val.{ofZ, toZ}
+use Rattle.rule.specs.Room.{within}
 use Rattle.rule.proofs.Ruling.{and-both, and-left, and-right}
 use Rattle.rule.proofs.Signed.{read}
 use Rattle.rule.proofs.Whole.{by-test, whole, down, one-side}
@@ -149,8 +148,3 @@ module _ (low high z : ℤ) (fits : mag z < 2 ^ 63) where
   unfolding within
   in-range g h =
       and-both {a = leZ low z} {b = ltZ z high} (omega (whole, rw (read w64 z fits) at g)) (omega (whole, rw (read w64 z fits) at h))
-
-pub unsigned-casts : (z : ℤ) → unsigned z ≡ true → T (nonNeg z) × Fits w32 (natAbs z)
-unfolding within
-unsigned-casts (pos n) h = (tt, omega (whole, and-right (leZ (pos 0) (pos n)) (ltZ (pos n) (pos word)) h))
-unsigned-casts (negsuc n) h = absurd (false≢true h)

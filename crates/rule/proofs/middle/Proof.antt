@@ -1,16 +1,11 @@
 -- `rule::middle` meets its contract: 64 bits hold the sum, and 32 hold its half.
-use lib.IntN.{ℤ, _+ℤ_}
-use mir.Syntax.{w32, w64}
-use mir.Val.{SFits}
+use mir.Syntax.{w64}
 use mir.Facts.{sfits-widen}
 use Rattle.rule.specs.Bucket.{middle}
-use Rattle.rule.proofs.Whole.{whole, sum, one-side, middle-up, middle-down}
-use Rattle.rule.proofs.Signed.{narrowed, narrows, sum-fits, sum-held, widened, widens}
+use Rattle.rule.proofs.Whole.{whole}
+use Rattle.rule.proofs.Signed.{middle-fits, narrowed, narrows, sum-fits, sum-held, widened, widens}
 use Rattle.rule.proofs.middle.Statement.{statement}
 use Rattle.rule.proofs.middle.Tie as tie
-
-fits : {a b : ℤ} → SFits w32 a → SFits w32 b → SFits w32 (middle a b)
-fits {a} {b} fits-a fits-b = omega (whole, middle-up a b, middle-down a b, sum a b, one-side (a +ℤ b))
 
 cast-result : tie.Need-cast-result
 cast-result c = widens w64 tt (c .fits .a)
@@ -24,15 +19,15 @@ add-result c = rw (widened w64 tt (c .fits .a), widened w64 tt (c .fits .b)) (su
 div-result : tie.Need-div-result
 unfolding middle
 div-result c =
-    rw (sum-held w64 tt (c .fits .a) (c .fits .b)) (omega whole, sfits-widen tt (fits (c .fits .a) (c .fits .b)))
+    rw (sum-held w64 tt (c .fits .a) (c .fits .b)) (omega whole, sfits-widen tt (middle-fits (c .fits .a) (c .fits .b)))
 
 cast-result-3 : tie.Need-cast-result-3
 unfolding middle
-cast-result-3 c = rw (sum-held w64 tt (c .fits .a) (c .fits .b)) (narrows w64 tt (fits (c .fits .a) (c .fits .b)))
+cast-result-3 c = rw (sum-held w64 tt (c .fits .a) (c .fits .b)) (narrows w64 tt (middle-fits (c .fits .a) (c .fits .b)))
 
 returns : tie.Need-returns
 unfolding middle
-returns c = rw (sum-held w64 tt (c .fits .a) (c .fits .b)) (narrowed w64 tt (fits (c .fits .a) (c .fits .b)))
+returns c = rw (sum-held w64 tt (c .fits .a) (c .fits .b)) (narrowed w64 tt (middle-fits (c .fits .a) (c .fits .b)))
 
 pub middle-spec : {M : Type 1} → statement M
 middle-spec = tie.close (tie.spec cast-result cast-result-2 add-result div-result cast-result-3 returns)

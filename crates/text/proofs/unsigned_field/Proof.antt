@@ -6,9 +6,9 @@ use lib.IntN.{pos}
 use mir.Syntax.{w64}
 use Rattle.rule.specs.Numbers.{word}
 use Rattle.rule.specs.Room.{unsigned}
-use Rattle.rule.proofs.Signed.{read}
+use Rattle.rule.proofs.Signed.{read, unsigned-fits}
 use Rattle.text.specs.Reading.{unsignedField}
-use Rattle.text.proofs.Lines.{above-range, below-range, in-range, unsigned-casts}
+use Rattle.text.proofs.Lines.{above-range, below-range, in-range}
 use Rattle.text.proofs.unsigned_field.Statement.{statement}
 use Rattle.text.proofs.unsigned_field.Tie as tie
 
@@ -38,7 +38,7 @@ returns-3 c =
 cast-t4 : tie.Need-cast-t4
 cast-t4 c =
     let z = c .before .before .before .n .given .0 .0 in
-    rw (read w64 z (c .before .before .known-told .given .0 .1)) (unsigned-casts z (inside c))
+    rw (read w64 z (c .before .before .known-told .given .0 .1)) (unsigned-fits z (inside c))
 
 returns-4 : tie.Need-returns-4
 unfolding unsignedField

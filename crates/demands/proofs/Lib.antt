@@ -1,4 +1,5 @@
--- Why demand 3 holds: pairs, borders, coverage, and the theorem.
+-- What the words of demand 3 mean, and why it holds: pairs, borders, coverage, and the theorem.
+pub mod Worst
 pub mod Borders
 pub mod Pairs
 pub mod Coverage

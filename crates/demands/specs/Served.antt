@@ -2,14 +2,14 @@
 use Prim.Native.Nat.{ℕ, _+_, _/_, _≤_}
 use mathlib.Core.Path.{_≡_}
 use mathlib.Core.Bool.{true, cond}
-use mathlib.Core.List.{List, List·Memᴰ}
+use mathlib.Core.List.{List, [], List·Memᴰ}
 use mathlib.Core.Option.{some}
 use lib.IntN.{ℤ}
 use lib.ListN.{length}
 use lib.Signed.{leZ}
 use Rattle.rule.specs.declared.Bucket.{Bucket}
 use Rattle.rule.specs.declared.Kind.{Kind}
-use Rattle.rule.specs.Bucket.{distance, level}
+use Rattle.rule.specs.Bucket.{distance, error, level}
 use Rattle.rule.specs.Table.{Table, Ordered, holders, holding, holds, limitOver, readings, runs, worst}
 use Rattle.demands.specs.Curve.{Curve, steps, value}
 use Rattle.demands.specs.History.{Reading, arrived, runsOf}
@@ -21,6 +21,16 @@ Near E c rs = (r : Reading) → List·Memᴰ r rs → distance (r .value) (value
 -- all accepted readings are within E of the picture, which at a tick is the level of the bucket that holds it
 abbrev pub Shown : ℕ → Table → List Reading → Type 0
 Shown E t rs = (r : Reading) → List·Memᴰ r rs → (b : Bucket) × (holding (r .tick) t ≡ some b) × (distance (r .value) (level b) ≤ E)
+
+-- w is the error of some bucket of the table, 0 where it has none
+pub data Attained (t : Table) (w : ℕ) : Type 0 where
+  empty : t ≡ [] → w ≡ 0 → Attained t w
+  bucket : (b : Bucket) → List·Memᴰ b t → error b ≡ w → Attained t w
+
+-- w is the greatest bucket error: a bound on it is a bound on every bucket's error, and asks no more
+pub record Greatest (t : Table) (w : ℕ) : Type 0 where
+  pub bounds : (b : Bucket) → List·Memᴰ b t → error b ≤ w
+  pub attained : Attained t w
 
 -- v is an accepted reading at a tick inside b
 pub record Inside (rs : List Reading) (b : Bucket) (v : ℤ) : Type 0 where

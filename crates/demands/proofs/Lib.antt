@@ -1,5 +1,6 @@
 -- What the words of demand 3 mean, and why it holds: pairs, borders, coverage, and the theorem.
 pub mod Worst
+pub mod Curves
 pub mod Borders
 pub mod Pairs
 pub mod Coverage

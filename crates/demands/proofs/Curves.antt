@@ -14,7 +14,7 @@ use Rattle.rule.proofs.Whole.{by-test, whole}
 use Rattle.rule.proofs.Ruling.{and-left, and-right}
 use Rattle.demands.specs.Curve.{Border, Drawn, changes, valueFrom}
 
--- of two borders in reach of a tick the later of the list gives the level
+-- a border put last holds from its tick on, whatever stands before it
 value-append : (v : ℤ) (bs : List Border) (b : Border) (tick : ℕ) → valueFrom v (bs ++ (b ∷ [])) tick ≡ cond (leb (b .tick) tick) (b .level) (valueFrom v bs tick)
 unfolding valueFrom
 value-append v [] b tick = refl
@@ -25,7 +25,7 @@ unfolding equal
 equal-true a b e = omega (whole, and-left (leZ a b) (leZ b a) e, and-right (leZ a b) (leZ b a) e)
 
 module _ (f : ℕ → ℤ) where
-  -- a border wherever the value changes, with the new value
+  -- a border wherever the value changes, with the new value from there on
   borders : ℕ → List Border
   borders zero = []
   borders (suc n) = cond (equal (f n) (f (suc n))) (borders n) (borders n ++ (record { tick = suc n; level = f (suc n) } ∷ []))
@@ -36,7 +36,7 @@ module _ (f : ℕ → ℤ) where
   borders-count (suc n) =
       by-test (equal (f n) (f (suc n))) (λ h. rw h (omega (arith, borders-count n))) (λ h. rw h (simp length-append (omega (arith, borders-count n))))
 
-  -- the value stays from n on
+  -- from n on the value stays: no border is later, so the next one may be put last
   borders-value : (n tick : ℕ) → valueFrom (f 0) (borders n) tick ≡ f (min tick n)
   unfolding borders valueFrom
   borders-value zero tick = ap f (omega arith)
@@ -59,6 +59,6 @@ module _ (f : ℕ → ℤ) where
   drawn n =
       record {
         curve = record { first = f 0; borders = borders n };
-        size = ap suc (borders-count n);
+        size = omega (arith, borders-count n);
         same = λ tick h. borders-value n tick ∙ ap f (omega arith);
       }

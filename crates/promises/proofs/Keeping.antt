@@ -1,14 +1,14 @@
 -- Demands 2 and 3 hold of everything that can be reached.
-use Prim.Native.Nat.{ℕ, zero, suc, _+_, _*_, _/_, _≤_, _<_}
+use Prim.Native.Nat.{ℕ, _+_, _*_, _≤_, _<_}
 use mathlib.Core.Path.{_≡_, refl, sym, ap, _∙_, subst}
-use mathlib.Core.Bool.{Bool, true, false, cond, true≢false, false≢true}
+use mathlib.Core.Bool.{true, false, cond, true≢false, false≢true}
 use mathlib.Core.List.{List, [], _∷_, List·Memᴰ, List·Memᴰ·cases-cons, List·Memᴰ·not-nil}
 use mathlib.Core.Logic.{⊎-elim}
 use mathlib.Core.Option.{Option, some}
 use native.Mathlib.Omega.{arith}
 use borrow.Author.Tests.{eqb-true, lt-leb}
 use lib.IntN.{ℤ}
-use lib.ListN.{length, take}
+use lib.ListN.{take}
 use Rattle.rule.specs.declared.Bucket.{Bucket}
 use Rattle.rule.specs.declared.Kind.{Kind}
 use Rattle.rule.specs.declared.Kind.the-variants.{InOrder, Late}
@@ -17,9 +17,9 @@ use Rattle.rule.specs.declared.State.{State}
 use Rattle.rule.specs.declared.Found.{Found}
 use Rattle.rule.specs.Bucket.{end, error, level}
 use Rattle.rule.specs.Bytes.{saved}
-use Rattle.rule.specs.Calls.{Verdict, accepted, foundOf, found, gapsKept, isHeld, kept, late, lateOutcome, lateVerdict, loaded, loadVerdict, lookupOutcome, nextOutcome, nextVerdict, opened, admitted, refuse, stateOf, traced}
+use Rattle.rule.specs.Calls.{Verdict, accepted, foundOf, found, gapsKept, isHeld, kept, late, lateVerdict, loaded, loadVerdict, lookupOutcome, nextVerdict, admitted, refuse, stateOf, traced}
 use Rattle.rule.specs.Numbers.{recordWidth, ticks}
-use Rattle.rule.specs.Room.{laid, signed, slots, sound, tableOf}
+use Rattle.rule.specs.Room.{laid, slots, sound, tableOf}
 use Rattle.rule.specs.Table.{Table, Ordered, accept, holders, holding, holds, lastEnd, limit, needed, nextTick, readings, runs}
 use Rattle.rule.specs.Rules.{follows}
 use Rattle.rule.proofs.Ruling.{Ruled}
@@ -28,17 +28,17 @@ use Rattle.rule.proofs.Whole.{by-test}
 use Rattle.slots.proofs.Laying.{length-slots, slots-laid}
 use Rattle.room.proofs.Placing.{held-counts}
 use Rattle.rule.proofs.Signed.{signed-fits}
-use Rattle.room.proofs.Sounding.{Facts, sound-facts, sound-ordered}
+use Rattle.room.proofs.Sounding.{sound-facts, sound-ordered}
 use Rattle.settings.proofs.Bounds.{steps-bounds}
 use Rattle.trace.specs.Left.{LeavesSound, LeftBy}
 use Rattle.saved.proofs.RoundTrips.{saved-accepted}
 use Rattle.trace.proofs.Arriving.{late-free}
 use Rattle.trace.proofs.Leaving.{late-either, late-leaves, next-either, next-leaves, open-either, open-leaves}
-use Rattle.demands.specs.History.{Accepted, Reading, Takes, arrived, runsOf, tableAfter}
-use Rattle.demands.specs.Served.{Near, Served, Shown}
+use Rattle.demands.specs.History.{Accepted, Reading, Takes, runsOf, tableAfter}
+use Rattle.demands.specs.Served.{Served}
 use Rattle.demands.proofs.Instance.{demand3}
 use Rattle.promises.specs.Reached.{Reached, SameSettings, late-refused, lates, load-refused, loads, next-refused, nexts, open-refused, opens}
-use Rattle.promises.specs.Demands.{Kept, Seen}
+use Rattle.promises.specs.Demands.{Kept}
 use Rattle.promises.proofs.Answering.{limit-is}
 use Rattle.promises.proofs.Outcomes.{accepted-is, bytes-written, not-accepted, traced-refused}
 

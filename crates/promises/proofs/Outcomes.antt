@@ -1,24 +1,23 @@
 -- What an accepted outcome says, and that a refused one leaves the room as it stood.
 use Prim.Native.Nat.{ℕ, _*_}
 use mathlib.Core.Path.{_≡_, sym, ap, _∙_}
-use mathlib.Core.Bool.{false, not}
+use mathlib.Core.Bool.{false}
 use mathlib.Core.List.{List}
 use native.Mathlib.Omega.{arith}
-use lib.Dec.{ltb}
 use lib.IntN.{ℤ}
 use lib.ListN.{drop, length, take}
 use lib.Seq.{take-at}
 use Rattle.rule.specs.declared.Refusal.{Refusal}
 use Rattle.rule.specs.declared.Settings.{Settings}
 use Rattle.rule.specs.declared.State.{State}
-use Rattle.rule.specs.Calls.{Verdict, accepted, late, nextOutcome, refused, saveOutcome, stateOf, traced, writeVerdict, wrote}
+use Rattle.rule.specs.Calls.{Verdict, accepted, late, nextOutcome, refused, saveOutcome, stateOf, traced, wrote}
 use Rattle.rule.specs.Numbers.{recordWidth}
 use Rattle.rule.specs.declared.Written.{Written}
 use Rattle.rule.specs.Bytes.{saved}
 use Rattle.record.proofs.RoundTrip.{length-saved}
-use Rattle.rule.specs.Room.{laid, sound, tableOf}
+use Rattle.rule.specs.Room.{laid, tableOf}
 use Rattle.rule.specs.Table.{Table, needed}
-use Rattle.settings.proofs.Granting.{past-refusal}
+use Rattle.row.proofs.Filling.{write-either}
 use Rattle.trace.proofs.Leaving.{next-either}
 
 module _ (g : Settings) (l : List ℤ) where
@@ -47,18 +46,12 @@ next-in-order s l v {t} {m} =
 -- ---- save
 
 pub bytes-written : (s : State) (l : List ℤ) (out : List ℕ) (n : ℕ) (written : List ℕ) → saveOutcome s l out ≡ (Written.Buckets n, written) → take (recordWidth * n) written ≡ saved (tableOf s l)
-unfolding writeVerdict wrote
+unfolding wrote
 bytes-written s l out n written =
-    past-refusal P (not (sound s l)) Refusal.Unsound _ (refuses Refusal.Unsound)
-    (λ _. past-refusal P (ltb (length out) (recordWidth * s .used)) Refusal.Short _ (refuses Refusal.Short)
-    (λ _ e.
+    write-either s l (recordWidth * s .used) (length out) (λ v. wrote saved out v ≡ (Written.Buckets n, written) → take (recordWidth * n) written ≡ saved (tableOf s l))
+    (λ r e. absurd (let w : _≡_ {A = Written} (Written.Refused r) (Written.Buckets n) = ap (λ (o : Written × List ℕ). o .0) e in let z : _≡_ {A = ℕ} 0 1 = cc in omega arith))
+    (λ _ _ e.
     let t : Table = tableOf s l in
     let w : _≡_ {A = Written} (Written.Buckets (length t)) (Written.Buckets n) = ap (λ (o : Written × List ℕ). o .0) e in
     let many : length t ≡ n = cc in
-    ap (λ (o : Written × List ℕ). take (recordWidth * n) (o .1)) (sym e) ∙ take-at (saved t) (drop (length (saved t)) out) (recordWidth * n) (omega (arith, length-saved t, many))))
-  where
-    P : Verdict Table → Type 0
-    P v = wrote saved out v ≡ (Written.Buckets n, written) → take (recordWidth * n) written ≡ saved (tableOf s l)
-
-    refuses : (r : Refusal) → P (refused r)
-    refuses r e = absurd (let w : _≡_ {A = Written} (Written.Refused r) (Written.Buckets n) = ap (λ (o : Written × List ℕ). o .0) e in let z : _≡_ {A = ℕ} 0 1 = cc in omega arith)
+    ap (λ (o : Written × List ℕ). take (recordWidth * n) (o .1)) (sym e) ∙ take-at (saved t) (drop (length (saved t)) out) (recordWidth * n) (omega (arith, length-saved t, many)))

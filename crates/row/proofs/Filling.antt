@@ -1,10 +1,10 @@
 -- The row as the loop writes it, one place after the other, and what the answer says of the trace.
 use Prim.Native.Nat.{ℕ, suc, _+_, _*_, _≤_, _<_}
 use mathlib.Core.Path.{_≡_, refl, sym, ap, _∙_}
-use mathlib.Core.Bool.{true}
+use mathlib.Core.Bool.{true, not}
 use mathlib.Core.List.{List, _++_}
 use native.Mathlib.Omega.{arith}
-use borrow.Author.Tests.{le-ltb, ltb-false}
+use borrow.Author.Tests.{le-ltb, ltb-false, not-false}
 use lib.Dec.{ltb}
 use lib.IntN.{ℤ}
 use lib.ListN.{length, take, drop, getD, set, length-append, length-drop}
@@ -16,9 +16,9 @@ use Rattle.rule.specs.Numbers.{slotWidth}
 use Rattle.rule.specs.Calls.{Verdict, accepted, refuse, refused, rowOutcome, writeVerdict, wrote}
 use Rattle.rule.specs.Room.{flat, slot, slotRanged, slots, sound, tableOf}
 use Rattle.rule.specs.Table.{Table}
-use Rattle.rule.proofs.Whole.{by-test}
 use Rattle.slots.proofs.Laying.{flat-slots, length-flat, length-slots, slots-split}
 use Rattle.slots.proofs.Reading.{filled}
+use Rattle.settings.proofs.Granting.{past-refusal}
 use Rattle.room.proofs.Sounding.{sound-facts, sound-filled}
 use Rattle.row.specs.Parts.{answer, number, numbersOutcome, rowAnswer, upTo}
 
@@ -38,28 +38,27 @@ one-more l i out h =
     (sym (append-snoc (slots l 0 i) (slot l i) (drop (suc i) out)))
 
 module _ (s : State) (l : List ℤ) where
-  -- the verdict is a refusal, or the trace is sound and its buckets have place
-  pub verdict : (n : ℕ) (P : Verdict Table → Type 0) → ((r : Refusal) → P (refused r)) → (sound s l ≡ true → s .used ≤ n → P (accepted (tableOf s l))) → P (writeVerdict s l (s .used) n)
-  unfolding writeVerdict refuse
-  verdict n P f g =
-      by-test (sound s l)
-      (λ e. by-test (ltb n (s .used)) (λ h. rw (e, h) (f Refusal.Short)) (λ h. rw (e, h) (g e (ltb-false n (s .used) h))))
-      (λ e. rw e (f Refusal.Unsound))
+  -- what holds of every refusal, and of the buckets of a sound trace that have place, holds of what is to be written
+  pub write-either : (taken places : ℕ) (P : Verdict Table → Type 0) → ((r : Refusal) → P (refused r)) → (sound s l ≡ true → taken ≤ places → P (accepted (tableOf s l))) → P (writeVerdict s l taken places)
+  unfolding writeVerdict
+  write-either taken places P refuses writes =
+      past-refusal P (not (sound s l)) Refusal.Unsound _ (refuses Refusal.Unsound)
+      (λ a. past-refusal P (ltb places taken) Refusal.Short _ (refuses Refusal.Short) (λ b. writes (not-false _ a) (ltb-false places taken b)))
 
   pub number-fits : (n : ℕ) → number (rowAnswer s l n) ≤ n
   unfolding answer number
-  number-fits n = verdict n (λ v. number (answer v) ≤ n) (λ r. omega arith) (λ e h. omega (arith, length-slots l 0 (s .used)))
+  number-fits n = write-either (s .used) n (λ v. number (answer v) ≤ n) (λ r. omega arith) (λ e h. omega (arith, length-slots l 0 (s .used)))
 
   -- each bucket that is counted can be read
   pub readable : (n i : ℕ) → i < number (rowAnswer s l n) → (slotWidth * suc i ≤ length l) × (slotRanged l i ≡ true)
   unfolding answer number
-  readable n i = verdict n (λ v. i < number (answer v) → (slotWidth * suc i ≤ length l) × (slotRanged l i ≡ true)) (λ r k. absurd (omega arith))
+  readable n i = write-either (s .used) n (λ v. i < number (answer v) → (slotWidth * suc i ≤ length l) × (slotRanged l i ≡ true)) (λ r k. absurd (omega arith))
       (λ e h k. filled (sound-filled s l (sound-facts s l e)) i (omega (arith, length-slots l 0 (s .used))))
 
   -- all places written are the outcome
   pub all-written : (out : Table) → let a = rowAnswer s l (length out) in (a, upTo l (number a) out) ≡ rowOutcome s l out
   unfolding answer number wrote slots
-  all-written out = verdict (length out) (λ v. (answer v, upTo l (number (answer v)) out) ≡ wrote (λ t. t) out v) (λ r. refl) (λ e h. rw (length-slots l 0 (s .used)))
+  all-written out = write-either (s .used) (length out) (λ v. (answer v, upTo l (number (answer v)) out) ≡ wrote (λ t. t) out v) (λ r. refl) (λ e h. rw (length-slots l 0 (s .used)))
 
   -- the used numbers of a sound room are the buckets' own
   pub numbers-written : (out : List ℤ) → sound s l ≡ true → slotWidth * s .used ≤ length out → numbersOutcome s l out ≡ (Written.Buckets (s .used), take (slotWidth * s .used) l ++ drop (slotWidth * s .used) out)

@@ -16,7 +16,7 @@ use Rattle.rule.specs.Table.{Table}
 use Rattle.slots.proofs.Laying.{length-slots}
 use Rattle.row.specs.declared.Part.{Part}
 use Rattle.row.specs.Parts.{number, part, parted, partOutcome, rowAnswer}
-use Rattle.row.proofs.Filling.{all-written, as-long, number-fits, verdict}
+use Rattle.row.proofs.Filling.{all-written, as-long, number-fits, write-either}
 
 -- ---- one place of a table
 
@@ -53,14 +53,14 @@ module _ (s : State) (l : List ℤ) (out : Table) where
   -- a refusal leaves every record as it was
   pub row-refused : (r : Refusal) → rowOutcome s l out .0 ≡ Written.Refused r → rowOutcome s l out .1 ≡ out
   unfolding wrote
-  row-refused r = verdict s l (length out) (λ v. let o = wrote (λ t. t) out v in o .0 ≡ Written.Refused r → o .1 ≡ out) (λ q e. refl) (λ e h k. absurd (other r (length (tableOf s l)) (sym k)))
+  row-refused r = write-either s l (s .used) (length out) (λ v. let o = wrote (λ t. t) out v in o .0 ≡ Written.Refused r → o .1 ≡ out) (λ q e. refl) (λ e h k. absurd (other r (length (tableOf s l)) (sym k)))
 
   module _ (n : ℕ) (told : rowOutcome s l out .0 ≡ Written.Buckets n) where
     -- as many records as buckets in use, the buckets first, and the rest as it was
     pub row-written : (n ≡ s .used) × ((take n (rowOutcome s l out .1) ≡ tableOf s l) × (drop n (rowOutcome s l out .1) ≡ drop n out))
     unfolding wrote number
     row-written =
-        verdict s l (length out) (λ v. let o = wrote (λ t. t) out v in o .0 ≡ Written.Buckets n → (n ≡ s .used) × ((take n (o .1) ≡ tableOf s l) × (drop n (o .1) ≡ drop n out))) (λ r k. absurd (other r n k))
+        write-either s l (s .used) (length out) (λ v. let o = wrote (λ t. t) out v in o .0 ≡ Written.Buckets n → (n ≡ s .used) × ((take n (o .1) ≡ tableOf s l) × (drop n (o .1) ≡ drop n out))) (λ r k. absurd (other r n k))
         (λ e h k. let same : length (tableOf s l) ≡ n = ap number k in
         let rest : Table = drop (length (tableOf s l)) out in
         (sym same ∙ length-slots l 0 (s .used), (take-at (tableOf s l) rest n same, drop-at (tableOf s l) rest n same ∙ ap (λ (j : ℕ). drop j out) same)))
@@ -70,7 +70,7 @@ module _ (s : State) (l : List ℤ) (out : Table) where
     pub row-part : (i : ℕ) (d : Bucket) → i < n → partOutcome s l i ≡ Part.Is (getD (rowOutcome s l out .1) i d)
     unfolding wrote number partOutcome parted refuse
     row-part i d within =
-        verdict s l (length out) (λ v. let o = wrote (λ t. t) out v in o .0 ≡ Written.Buckets n → partOutcome s l i ≡ Part.Is (getD (o .1) i d)) (λ r k. absurd (other r n k))
+        write-either s l (s .used) (length out) (λ v. let o = wrote (λ t. t) out v in o .0 ≡ Written.Buckets n → partOutcome s l i ≡ Part.Is (getD (o .1) i d)) (λ r k. absurd (other r n k))
         (λ e h k. let inside : i < length (tableOf s l) = omega (arith, ap number k) in
         rw (e, part-in (tableOf s l) i d inside, List·getD-append (tableOf s l) (drop (length (tableOf s l)) out) d i inside))
         told

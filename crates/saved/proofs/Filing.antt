@@ -1,7 +1,7 @@
 -- Records and slots written one after the other, and what it means that settings, room and file are admitted.
 use Prim.Native.Nat.{ℕ, zero, suc, _+_, _*_, _-_, _%_, _≤_}
-use mathlib.Core.Path.{_≡_, refl, sym, ap, _∙_}
-use mathlib.Core.Bool.{Bool, true, false, not, false≢true}
+use mathlib.Core.Path.{_≡_, refl, ap, _∙_}
+use mathlib.Core.Bool.{true, not, false≢true}
 use mathlib.Core.List.{List, [], _∷_, _++_, append-assoc, append-nil}
 use native.Mathlib.Omega.{arith}
 use native.Mathlib.Nat.{add-zero, zero-add}
@@ -18,9 +18,9 @@ use Rattle.rule.specs.declared.Settings.{Settings}
 use Rattle.rule.specs.declared.State.{State}
 use Rattle.rule.specs.declared.Written.{Written}
 use Rattle.rule.specs.Bytes.{recordAt, records, recordsOf, saved}
-use Rattle.rule.specs.Calls.{Verdict, refused, accepted, admitted, kept, loadVerdict, loaded, refuse, refuseFault, saveOutcome, stateOf, traced, writeVerdict, wrote}
+use Rattle.rule.specs.Calls.{Verdict, refused, accepted, fileVerdict, kept, loaded, refuse, refuseFault, saveOutcome, stateOf, traced, writeVerdict, wrote}
 use Rattle.rule.specs.Numbers.{recordWidth, slotWidth, ticks}
-use Rattle.rule.specs.Room.{flat, gapsGood, laid, roomy, runsAllowed, slot, slots, sound, stepsGood, tableOf, zeros}
+use Rattle.rule.specs.Room.{flat, laid, runsAllowed, slot, slots, sound, tableOf, zeros}
 use Rattle.rule.specs.Rules.{Fault, whole, fault, firstFault, isWhole}
 use Rattle.rule.specs.Table.{Table, limit, needed, readings, runs}
 use Rattle.rule.proofs.Ruling.{Ruled, facts-ruled, ordered-readings, ruled-end, ruled-facts, ruled-ordered}
@@ -34,7 +34,6 @@ use Rattle.slots.proofs.Laying.{flat-append, length-flat, length-slots, slots-s
 use Rattle.settings.proofs.Granting.{Granted, admits, past-admission, past-refusal}
 use Rattle.saved.specs.declared.Inspected.{Inspected}
 use Rattle.saved.specs.Verdicts.{inspection}
-use Rattle.rule.specs.Calls.{fileVerdict}
 
 -- ---- saved slot by slot
 

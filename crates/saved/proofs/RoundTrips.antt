@@ -14,9 +14,9 @@ use Rattle.rule.specs.declared.Settings.{Settings}
 use Rattle.rule.specs.declared.State.{State}
 use Rattle.rule.specs.declared.Written.{Written}
 use Rattle.rule.specs.Bytes.{records, recordsOf, saved}
-use Rattle.rule.specs.Calls.{Verdict, accepted, admitted, gapsKept, kept, loadVerdict, loaded, opened, saveOutcome, stateOf, traced}
+use Rattle.rule.specs.Calls.{Verdict, accepted, admitted, fileVerdict, gapsKept, kept, loaded, opened, saveOutcome, stateOf, traced}
 use Rattle.rule.specs.Numbers.{recordWidth, slotWidth}
-use Rattle.rule.specs.Room.{flat, gapsGood, laid, restZero, runsAllowed, sound, tableOf, zeros}
+use Rattle.rule.specs.Room.{flat, gapsGood, laid, restZero, sound, tableOf, zeros}
 use Rattle.rule.specs.Table.{Table, needed, readings, runs}
 use Rattle.rule.proofs.Ruling.{Ruled}
 use Rattle.record.proofs.Faults.{length-file}
@@ -25,7 +25,6 @@ use Rattle.slots.proofs.Fitting.{fitted-slots}
 use Rattle.slots.proofs.Laying.{flat-slots, laid-more, laid-over, length-flat, length-slots, slots-laid}
 use Rattle.room.proofs.Sounding.{Facts, facts-sound, laid-facts, sound-facts, sound-filled, used-needed}
 use Rattle.saved.specs.Bytes.{AllBytes}
-use Rattle.rule.specs.Calls.{fileVerdict}
 use Rattle.trace.proofs.Leaving.{none-allowed}
 use Rattle.saved.proofs.Filing.{Loads, file-loads, load-accepts, load-leaves, save-writes}
 use Rattle.settings.proofs.Granting.{Granted}

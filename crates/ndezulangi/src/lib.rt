@@ -4,7 +4,6 @@ ghost use mathlib.Core.Path.{_≡_};
 ghost use Rattle.ndezulangi.specs.Plain.{fieldsOf, kindOf, lateReply, loadReply, lookupReply, nextReply, none, numberOf, openReply, replying, rowReply, saveReply, settingsOf, showing, stateFrom, telling};
 use rule::Found;
 use rule::Kind;
-use rule::Refusal;
 use rule::Settings;
 use rule::State;
 use rule::Written;

@@ -1,5 +1,5 @@
 -- Demands 2 and 3 of a state and a room that were reached.
-use Prim.Native.Nat.{ℕ, _≤_, _*_}
+use Prim.Native.Nat.{ℕ, _≤_}
 use mathlib.Core.Path.{_≡_}
 use mathlib.Core.Bool.{true, false, cond}
 use mathlib.Core.List.{List, List·Memᴰ}

@@ -1,7 +1,7 @@
 // What an accepted reading does to the room, the place of a tick among the slots in use, and what a reading there touches.
 ghost use mathlib.Core.Path.{_≡_};
 ghost use mathlib.Core.Bool.{_&&_};
-ghost use Prim.Native.Nat.{_+_, _*_, _-_, _<_, _≤_, suc};
+ghost use Prim.Native.Nat.{_+_, _*_, _-_, _<_, suc};
 ghost use lib.Dec.{eqb, ltb};
 ghost use lib.IntN.{ℤ};
 ghost use lib.ListN.{length};

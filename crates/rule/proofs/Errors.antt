@@ -1,7 +1,7 @@
 -- Distances, the level and the error of a bucket: what demand 3 needs of one bucket.
 use Prim.Native.Nat.{ℕ, _+_, _*_, _/_, _≤_}
 use mathlib.Core.Path.{_≡_, refl}
-use mathlib.Core.Bool.{Bool, true, false}
+use mathlib.Core.Bool.{true}
 use mathlib.Core.Logic.{_⊎_, inl, inr}
 use lib.IntN.{ℤ, _+ℤ_}
 use lib.Signed.{leZ}
@@ -11,9 +11,6 @@ use Rattle.rule.proofs.Whole.{whole, cond-ind, distance-is, middle-down
 
 pub leZ-refl : (a : ℤ) → leZ a a ≡ true
 leZ-refl a = omega whole
-
-pub leZ-trans : (a b c : ℤ) → leZ a b ≡ true → leZ b c ≡ true → leZ a c ≡ true
-leZ-trans a b c h k = omega whole
 
 pub lesser-left : (a b : ℤ) → leZ (lesser a b) a ≡ true
 unfolding lesser

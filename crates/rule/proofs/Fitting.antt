@@ -3,6 +3,7 @@ use Prim.Native.Nat.{ℕ, zero, suc, _+_, _<_}
 use mathlib.Core.List.{[], _∷_, _++_}
 use native.Mathlib.Omega.{arith}
 use lib.Dec.{ltb}
+use lib.IntN.{ℤ}
 use lib.ListN.{take, drop}
 use lib.Signed.{leZ}
 use mir.Syntax.{w32}
@@ -23,15 +24,17 @@ unfoldable pub Fitted : Table → Type 0
 Fitted [] = Unit {0}
 Fitted (b ∷ t) = Fitting b × Fitted t
 
+pub lesser-fits : {a b : ℤ} → SFits w32 a → SFits w32 b → SFits w32 (lesser a b)
+unfolding lesser
+lesser-fits {a} {b} f g = cond-ind (leZ a b) a b (SFits w32) (λ _. f) (λ _. g)
+
+pub larger-fits : {a b : ℤ} → SFits w32 a → SFits w32 b → SFits w32 (larger a b)
+unfolding larger
+larger-fits {a} {b} f g = cond-ind (leZ a b) b a (SFits w32) (λ _. g) (λ _. f)
+
 pub fitting-union : (a b : Bucket) → Fitting a → Fitting b → a .count + b .count < word → Fitting (union a b)
-unfolding larger lesser
 fitting-union a b f g h =
-    record {
-      start = f .start;
-      count = h;
-      least = cond-ind (leZ (a .least) (b .least)) (a .least) (b .least) (SFits w32) (λ _. f .least) (λ _. g .least);
-      largest = cond-ind (leZ (a .largest) (b .largest)) (b .largest) (a .largest) (SFits w32) (λ _. g .largest) (λ _. f .largest);
-    }
+    record { start = f .start; count = h; least = lesser-fits (f .least) (g .least); largest = larger-fits (f .largest) (g .largest) }
 
 pub fitted-merge : (i : ℕ) (t : Table) → Fitted t → readings t < word → Fitted (mergeAt i t)
 unfolding Fitted mergeAt readings

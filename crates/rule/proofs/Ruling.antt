@@ -1,11 +1,11 @@
 -- The record rules as facts, and that merging and inserting keep them.
 use Prim.Native.Nat.{ℕ, zero, suc, _+_, _/_, _≤_, _<_}
 use mathlib.Core.Path.{_≡_, refl, sym, ap, _∙_, subst}
-use mathlib.Core.Bool.{Bool, true, false, cond, not, _&&_, _||_, false≢true, Bool·not-not}
+use mathlib.Core.Bool.{Bool, true, false, not, _&&_, _||_, false≢true, Bool·not-not}
 use mathlib.Core.List.{List, [], _∷_, _++_}
 use native.Mathlib.Omega.{arith}
-use borrow.Author.Tests.{leb-true, le-leb, eqb-false, eqb-true, eq-eqb, le-ltb, lt-ltb, ltb-false, ne-eqb}
-use lib.Dec.{leb, ltb, eqb}
+use borrow.Author.Tests.{leb-true, le-leb, eqb-false, eqb-true, eq-eqb, le-ltb}
+use lib.Dec.{leb, eqb}
 use lib.IntN.{ℤ}
 use lib.ListN.{length}
 use lib.Signed.{leZ}
@@ -15,10 +15,10 @@ use Rattle.rule.specs.declared.Kind.the-variants.{InOrder, Late}
 use Rattle.rule.specs.declared.Settings.{Settings}
 use Rattle.rule.specs.Numbers.{recordWidth, ticks}
 use Rattle.rule.specs.Bucket.{end, neighbours, union}
-use Rattle.rule.specs.Table.{Table, Ordered, holders, holds, insert, lastEnd, merge, nextTick, readings, runs, runsAfter, settle, single}
+use Rattle.rule.specs.Table.{Table, Ordered, holders, insert, lastEnd, merge, readings, runs, runsAfter, settle, single}
 use Rattle.rule.specs.Bytes.{recordAt, records, recordsOf}
 use Rattle.rule.specs.Files.{Finds, endBefore, meets}
-use Rattle.rule.specs.Rules.{Fault, fault, whole, broken, equal, faultAt, firstFalse, firstFault, follows, isWhole, ruled, rules}
+use Rattle.rule.specs.Rules.{Fault, fault, whole, broken, equal, faultAt, firstFalse, firstFault, follows, isWhole, rules}
 use Rattle.rule.specs.Room.{allOf}
 use Rattle.rule.proofs.Whole.{by-test}
 use Rattle.rule.proofs.Whole as wholes
@@ -50,7 +50,7 @@ whole-at i j [] f = refl
 whole-at i j (true ∷ l) f = whole-at i (suc j) l f
 whole-at i j (false ∷ l) f = refl
 
-pub whole-step : (k : Kind) (e i : ℕ) (b : Bucket) (t : Table) → isWhole (firstFault k e i (b ∷ t)) ≡ allOf (rules k e b) && isWhole (firstFault k (end b) (suc i) t)
+whole-step : (k : Kind) (e i : ℕ) (b : Bucket) (t : Table) → isWhole (firstFault k e i (b ∷ t)) ≡ allOf (rules k e b) && isWhole (firstFault k (end b) (suc i) t)
 unfolding broken firstFault
 whole-step k e i b t = whole-at i 0 (rules k e b) (firstFault k (end b) (suc i) t)
 

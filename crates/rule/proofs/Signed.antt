@@ -103,18 +103,18 @@ fits-unsigned n h = and-both {a = leZ (pos 0) (pos n)} {b = ltZ (pos n) (pos wor
 
 -- ---- one below the opposite, which has a number's bits turned over in two's complement
 
+pub turned-fits : {w : Width} (z : ℤ) → SFits w z → SFits w (negsuc 0 -ℤ z)
+turned-fits z fits = omega (whole, difference (negsuc 0) z, one-side z, one-side (negsuc 0 -ℤ z))
+
 -- what a cast to an unsigned number asks
 casts : (z : ℤ) → SFits w64 z → down z ≤ 0 → T (nonNeg z) × Fits w64 (natAbs z)
 casts (pos n) fits h = (tt, fits-natAbs tt fits)
 casts (negsuc n) fits h = absurd (omega whole)
 
 module _ (z : ℤ) (fits : SFits w64 z) where
-  pub turned-fits : SFits w64 (negsuc 0 -ℤ z)
-  turned-fits = omega (whole, difference (negsuc 0) z, one-side z, one-side (negsuc 0 -ℤ z))
-
   -- of a number below 0 turned over, and of another as it is
   pub turned-casts : ltZ z (pos 0) ≡ true → T (nonNeg (negsuc 0 -ℤ z)) × Fits w64 (natAbs (negsuc 0 -ℤ z))
-  turned-casts h = casts (negsuc 0 -ℤ z) turned-fits (omega (whole, difference (negsuc 0) z, one-side z, one-side (negsuc 0 -ℤ z)))
+  turned-casts h = casts (negsuc 0 -ℤ z) (turned-fits z fits) (omega (whole, difference (negsuc 0) z, one-side z, one-side (negsuc 0 -ℤ z)))
 
   pub straight-casts : ltZ z (pos 0) ≡ false → T (nonNeg z) × Fits w64 (natAbs z)
   straight-casts h = casts z fits (omega (whole, one-side z))

@@ -1,7 +1,7 @@
 -- The traces worked by hand in document 01, H1 to H12, as one table: what the calls answer and leave in a room of one number more than is needed.
 use Prim.Native.Nat.{ℕ, _*_, suc}
 use mathlib.Core.Path.{_≡_}
-use mathlib.Core.List.{List, [], _∷_, _++_, map}
+use mathlib.Core.List.{List, [], _∷_, _++_}
 use lib.IntN.{ℤ, pos, negsuc}
 use lib.ListN.{replicate}
 use Rattle.rule.specs.declared.Bucket.{Bucket}

@@ -1,7 +1,5 @@
 -- Each public function's contract allows one outcome.
 use mathlib.Core.Path.{refl, sym, ap, _∙_}
-use native.Mathlib.Omega.{arith}
-use lib.IntN.{pos}
 use Rattle.rule.specs.Outcomes.{OneOutcome}
 use Rattle.rule.proofs.Determined.{both, by-result}
 use Rattle.slots.proofs.moves.clear as clear

@@ -8,15 +8,15 @@ use native.Mathlib.Omega.{arith}
 use borrow.Author.Tests.{le-leb, lt-leb, leb-true, leb-false}
 use lib.Dec.{leb}
 use lib.IntN.{ℤ}
-use lib.Signed.{leZ}
 use mir.Syntax.{w32}
 use mir.Val.{SFits}
-use Rattle.rule.specs.Bucket.{distance, larger, lesser, neighbours, spread, union}
+use Rattle.rule.specs.Bucket.{distance, neighbours, spread, union}
 use Rattle.rule.specs.Numbers.{word}
 use Rattle.rule.specs.Room.{slot, slotRanged, slots}
 use Rattle.rule.specs.Table.{Choice, cheaper, cheapest, choice, nothing, pair}
-use Rattle.rule.proofs.Whole.{whole, by-test, cond-ind, distance-is}
+use Rattle.rule.proofs.Whole.{whole, by-test, distance-is}
 use Rattle.slots.specs.Slots.{Filled, costOf, placeOf}
+use Rattle.rule.proofs.Fitting.{larger-fits, lesser-fits}
 use Rattle.rule.proofs.Signed.{signed-fits}
 use Rattle.slots.proofs.Reading.{filled, ranges}
 
@@ -95,14 +95,6 @@ module _ (l : List ℤ) (n : ℕ) where
   rest-next : (i : ℕ) → i + 1 < n → rest i ≡ cheaper (beside l i i) (rest (i + 1))
   unfolding cheapest
   rest-next i h = rw (add-one, slots-next i (omega arith), slots-next (suc i) (omega arith))
-
-lesser-fits : {a b : ℤ} → SFits w32 a → SFits w32 b → SFits w32 (lesser a b)
-unfolding lesser
-lesser-fits {a} {b} f g = cond-ind (leZ a b) a b (SFits w32) (λ _. f) (λ _. g)
-
-larger-fits : {a b : ℤ} → SFits w32 a → SFits w32 b → SFits w32 (larger a b)
-unfolding larger
-larger-fits {a} {b} f g = cond-ind (leZ a b) b a (SFits w32) (λ _. g) (λ _. f)
 
 distance-below : {a b : ℤ} → SFits w32 a → SFits w32 b → distance a b < word
 distance-below {a} {b} f g = omega (whole, distance-is a b)

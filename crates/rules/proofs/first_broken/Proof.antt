@@ -1,10 +1,33 @@
--- `rules::first_broken` meets its contract: a rule that is not met is the first where those before it are.
+-- `rules::first_broken` meets its contract: behind each rule that is met, what is left to ask decides.
+use Prim.Native.Nat.{ℕ, suc}
+use mathlib.Core.Path.{_≡_, sym, _∙_}
 use borrow.Author.Needs.{needs}
+use lib.ListN.{drop}
 use Rattle.rule.specs.Rules.{broken, firstFalse, rules}
 use Rattle.rule.proofs.Ruling.{flipped}
 use Rattle.rules.specs.Numbered.{meets}
 use Rattle.rules.proofs.first_broken.Statement.{statement}
 use Rattle.rules.proofs.first_broken.Tie as tie
+
+-- the first n are met
+abbrev Past : ℕ → tie.Start → Type 0
+Past n c = let a = c .args in broken (a .kind) (a .end) (a .b) ≡ firstFalse (suc n) (drop n (rules (a .kind) (a .end) (a .b)))
+
+past-1 : (c : tie.Else1) → Past 1 (c .before .before)
+unfolding broken firstFalse meets rules
+past-1 c = rw (flipped (c .before .meets .ensures) (c .if1 .left))
+
+past-2 : (c : tie.Else2) → Past 2 (c .before .before .before .before)
+unfolding firstFalse meets rules
+past-2 c = past-1 (c .before .before) ∙ rw (flipped (c .before .meets2 .ensures) (c .if2 .left))
+
+past-3 : (c : tie.Else3) → Past 3 (c .before .before .before .before .before .before)
+unfolding firstFalse meets rules
+past-3 c = past-2 (c .before .before) ∙ rw (flipped (c .before .meets3 .ensures) (c .if3 .left))
+
+past-4 : (c : tie.Else4) → Past 4 (c .before .before .before .before .before .before .before .before)
+unfolding firstFalse meets rules
+past-4 c = past-3 (c .before .before) ∙ rw (flipped (c .before .meets4 .ensures) (c .if4 .left))
 
 meets-requires : tie.Need-meets-requires
 meets-requires c κs = search needs
@@ -17,76 +40,33 @@ meets-requires-2 : tie.Need-meets-requires-2
 meets-requires-2 c κs = search needs
 
 returns-2 : tie.Need-returns-2
-unfolding broken firstFalse meets rules
-returns-2 c =
-    let one = c .before .before in
-    rw (
-      flipped (one .before .meets .ensures) (one .if1 .left),
-      flipped (c .before .meets2 .ensures) (c .if2 .taken),
-    )
+unfolding firstFalse meets rules
+returns-2 c = sym (past-1 (c .before .before) ∙ rw (flipped (c .before .meets2 .ensures) (c .if2 .taken)))
 
 meets-requires-3 : tie.Need-meets-requires-3
 meets-requires-3 c κs = search needs
 
 returns-3 : tie.Need-returns-3
-unfolding broken firstFalse meets rules
-returns-3 c =
-    let two = c .before .before in
-    let one = two .before .before in
-    rw (
-      flipped (one .before .meets .ensures) (one .if1 .left),
-      flipped (two .before .meets2 .ensures) (two .if2 .left),
-      flipped (c .before .meets3 .ensures) (c .if3 .taken),
-    )
+unfolding firstFalse meets rules
+returns-3 c = sym (past-2 (c .before .before) ∙ rw (flipped (c .before .meets3 .ensures) (c .if3 .taken)))
 
 meets-requires-4 : tie.Need-meets-requires-4
 meets-requires-4 c κs = search needs
 
 returns-4 : tie.Need-returns-4
-unfolding broken firstFalse meets rules
-returns-4 c =
-    let three = c .before .before in
-    let two = three .before .before in
-    let one = two .before .before in
-    rw (
-      flipped (one .before .meets .ensures) (one .if1 .left),
-      flipped (two .before .meets2 .ensures) (two .if2 .left),
-      flipped (three .before .meets3 .ensures) (three .if3 .left),
-      flipped (c .before .meets4 .ensures) (c .if4 .taken),
-    )
+unfolding firstFalse meets rules
+returns-4 c = sym (past-3 (c .before .before) ∙ rw (flipped (c .before .meets4 .ensures) (c .if4 .taken)))
 
 meets-requires-5 : tie.Need-meets-requires-5
 meets-requires-5 c κs = search needs
 
 returns-5 : tie.Need-returns-5
-unfolding broken firstFalse meets rules
-returns-5 c =
-    let four = c .before .before in
-    let three = four .before .before in
-    let two = three .before .before in
-    let one = two .before .before in
-    rw (
-      flipped (one .before .meets .ensures) (one .if1 .left),
-      flipped (two .before .meets2 .ensures) (two .if2 .left),
-      flipped (three .before .meets3 .ensures) (three .if3 .left),
-      flipped (four .before .meets4 .ensures) (four .if4 .left),
-      flipped (c .before .meets5 .ensures) (c .if5 .taken),
-    )
+unfolding firstFalse meets rules
+returns-5 c = sym (past-4 (c .before .before) ∙ rw (flipped (c .before .meets5 .ensures) (c .if5 .taken)))
 
 returns-6 : tie.Need-returns-6
-unfolding broken firstFalse meets rules
-returns-6 c =
-    let four = c .before .before in
-    let three = four .before .before in
-    let two = three .before .before in
-    let one = two .before .before in
-    rw (
-      flipped (one .before .meets .ensures) (one .if1 .left),
-      flipped (two .before .meets2 .ensures) (two .if2 .left),
-      flipped (three .before .meets3 .ensures) (three .if3 .left),
-      flipped (four .before .meets4 .ensures) (four .if4 .left),
-      flipped (c .before .meets5 .ensures) (c .if5 .left),
-    )
+unfolding firstFalse meets rules
+returns-6 c = sym (past-4 (c .before .before) ∙ rw (flipped (c .before .meets5 .ensures) (c .if5 .left)))
 
 pub first-broken-spec : {M : Type 1} → statement M
 first-broken-spec =

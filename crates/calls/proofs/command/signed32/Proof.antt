@@ -1,16 +1,10 @@
 -- `calls::command::signed32` meets its contract: what is turned over fits.
 use Prim.Native.Nat.{_-_}
 use borrow.Author.Needs.{needs}
-use lib.IntN.{ℤ, negsuc, _-ℤ_}
-use mir.Syntax.{w32}
-use mir.Val.{SFits}
 use mir.Facts.{sfits-toZ}
-use Rattle.rule.proofs.Whole.{whole, difference, one-side}
+use Rattle.rule.proofs.Signed.{turned-fits}
 use Rattle.calls.proofs.command.signed32.Statement.{statement}
 use Rattle.calls.proofs.command.signed32.Tie as tie
-
-turned : (z : ℤ) → SFits w32 z → SFits w32 (negsuc 0 -ℤ z)
-turned z fits = omega (whole, difference (negsuc 0) z, one-side z, one-side (negsuc 0 -ℤ z))
 
 cast-result : tie.Need-cast-result
 cast-result c = search needs
@@ -22,7 +16,7 @@ cast-result-2 : tie.Need-cast-result-2
 cast-result-2 c = search needs
 
 sub-result-2 : tie.Need-sub-result-2
-sub-result-2 c = turned _ (sfits-toZ {n = 4294967295 - c .before .args .bits} (search needs))
+sub-result-2 c = turned-fits _ (sfits-toZ {n = 4294967295 - c .before .args .bits} (search needs))
 
 returns : tie.Need-returns
 returns c = search needs

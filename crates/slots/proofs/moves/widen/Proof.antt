@@ -1,5 +1,4 @@
 -- `slots::moves::widen` meets its contract. The loop's invariant: the numbers from `i` up to `to` stand one slot later, the rest is as it was.
-use Prim.Native.Nat.{_-_}
 use native.Mathlib.Omega.{arith}
 use mir.Syntax.{w64}
 use Rattle.rule.specs.Numbers.{slotWidth}

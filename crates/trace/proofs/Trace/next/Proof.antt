@@ -4,7 +4,6 @@ use borrow.Author.Tests.{le-leb, lt-leb}
 use native.Mathlib.Omega.{arith}
 use mathlib.Core.Path.{_≡_, sym, _∙_}
 use mathlib.Core.Bool.{true, false}
-use lib.IntN.{ℤ}
 use mir.Facts.{toZ-ofZ}
 use Rattle.rule.specs.Calls.{late, nextVerdict, refuse, traced}
 use Rattle.rule.specs.Numbers.{ticks}

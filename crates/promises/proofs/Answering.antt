@@ -35,7 +35,7 @@ use Rattle.trace.proofs.Leaving.{late-either, next-either, open-either}
 use Rattle.saved.proofs.Filing.{load-accepts, load-leaves, loads-needed}
 use Rattle.promises.proofs.Outcomes.{traced-refused}
 use Rattle.rule.proofs.Whole.{by-test}
-use Rattle.promises.specs.Answered.{Answered, Demand1, Lawful, Row, fileRows, firstOf, indexOf, lateRows, lookupRows, nextRows, openRows, outside, row, said, slotsNeeded, saidFound, saidWritten, writeRows}
+use Rattle.promises.specs.Answered.{Answered, Demand1, Lawful, Row, fileRows, firstOf, indexOf, lateRows, lookupRows, nextRows, openRows, outside, refusing, said, slotsNeeded, saidFound, saidWritten, writeRows}
 
 -- ---- one link of a chain and one row
 
@@ -144,7 +144,7 @@ writes s l places taken =
     link (not (sound s l)) _ Refusal.Unsound _ _ refl (λ a.
     link (ltb places taken) _ Refusal.Short _ _ refl (λ b. nothing _))
 
-absent : (o : Option Bucket) → saidFound (found o) ≡ firstOf (row 12 (not (isHeld o)) ∷ [])
+absent : (o : Option Bucket) → saidFound (found o) ≡ firstOf (refusing 12 (not (isHeld o)) ∷ [])
 unfolding saidFound found firstOf isHeld
 absent none = refl
 absent (some b) = refl
@@ -173,7 +173,7 @@ loading g file l =
     link (ltb (limit (kept g) (runs (recordsOf file))) (length (recordsOf file))) _ Refusal.Overfull _ _ (ap (λ (n : ℕ). ltb n (length (recordsOf file))) (limit-is (g .kind) (2 * g .steps) (runs (recordsOf file)))) (λ c. nothing _)))))
 
 -- a row of another number is not the one given
-other : (n : ℕ) (c : Bool) (rows : List Row) (i : ℕ) → (n ≡ 8 → ⊥) → firstOf (row n c ∷ rows) ≡ some (8, i) → firstOf rows ≡ some (8, i)
+other : (n : ℕ) (c : Bool) (rows : List Row) (i : ℕ) → (n ≡ 8 → ⊥) → firstOf (refusing n c ∷ rows) ≡ some (8, i) → firstOf rows ≡ some (8, i)
 unfolding firstOf
 other n true rows i differs e = absurd (differs (ap (λ (r : ℕ × ℕ). r .0) (given (n, 0) (8, i) e)))
 other n false rows i differs e = e

@@ -38,7 +38,7 @@ use Rattle.demands.specs.History.{Accepted, Reading, Takes, runsOf, tableAfter}
 use Rattle.demands.specs.Served.{Served}
 use Rattle.demands.proofs.Instance.{demand3}
 use Rattle.promises.specs.Reached.{Reached, SameSettings, late-refused, lates, load-refused, loads, next-refused, nexts, open-refused, opens}
-use Rattle.promises.specs.Demands.{Kept}
+use Rattle.promises.specs.Demands.{Upheld}
 use Rattle.promises.proofs.Answering.{limit-is}
 use Rattle.promises.proofs.Outcomes.{accepted-is, bytes-written, not-accepted, traced-refused}
 
@@ -183,7 +183,7 @@ follows-on Late e t h r = absurd (true≢false h)
 follows-on InOrder e [] h r = omega arith
 follows-on InOrder e (b ∷ t) h r = omega (arith, follows-on InOrder (end b) t h (r .1), eqb-true (b .start) e (r .0 .follow))
 
-pub keeps : {g : Settings} {rs : List Reading} {s : State} {l : List ℤ} → Reached g rs s l → Kept g rs s l
+pub keeps : {g : Settings} {rs : List Reading} {s : State} {l : List ℤ} → Reached g rs s l → Upheld g rs s l
 unfolding isHeld
 keeps {g} {rs} {s} {l} r =
     let k = known r in

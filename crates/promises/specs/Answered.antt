@@ -34,8 +34,8 @@ pub record Row : Type 0 where
   pub due : Bool
 
 -- the place is 0 except for 8
-abbrev pub row : ℕ → Bool → Row
-row n c = record { number = n; place = 0; due = c }
+abbrev pub refusing : ℕ → Bool → Row
+refusing n c = record { number = n; place = 0; due = c }
 
 -- the first that is due is the one given
 unfoldable pub firstOf : List Row → Option (ℕ × ℕ)
@@ -61,47 +61,47 @@ slotsNeeded g = mostSteps g (g .gaps) + 1
 
 abbrev pub openRows : Settings → List ℤ → List Row
 openRows g l =
-    row 1 (outside (g .steps))
-    ∷ row 2 (late (g .kind) && outside (g .gaps))
-    ∷ row 3 (ltb (length l) (4 * slotsNeeded g))
+    refusing 1 (outside (g .steps))
+    ∷ refusing 2 (late (g .kind) && outside (g .gaps))
+    ∷ refusing 3 (ltb (length l) (4 * slotsNeeded g))
     ∷ []
 
 abbrev pub fileRows : Settings → List ℕ → List Row
 fileRows g file =
-    row 7 (not (eqb (length file % 16) 0))
+    refusing 7 (not (eqb (length file % 16) 0))
     ∷ record { number = 8; place = indexOf (firstFault (g .kind) 0 0 (recordsOf file)); due = not (ruled (g .kind) (recordsOf file)) }
-    ∷ row 9 (late (g .kind) && ltb (g .gaps) (runs (recordsOf file)))
-    ∷ row 10 (ltb (mostSteps g (runs (recordsOf file))) (length (recordsOf file)))
+    ∷ refusing 9 (late (g .kind) && ltb (g .gaps) (runs (recordsOf file)))
+    ∷ refusing 10 (ltb (mostSteps g (runs (recordsOf file))) (length (recordsOf file)))
     ∷ []
 
 abbrev pub nextRows : State → List ℤ → List Row
 nextRows s l =
-    row 4 (not (sound s l))
-    ∷ row 5 (late (s .settings .kind))
-    ∷ row 6 (leb 16777216 (nextTick (tableOf s l)))
+    refusing 4 (not (sound s l))
+    ∷ refusing 5 (late (s .settings .kind))
+    ∷ refusing 6 (leb 16777216 (nextTick (tableOf s l)))
     ∷ []
 
 abbrev pub lateRows : State → List ℤ → ℕ → ℤ → List Row
 lateRows s l tick v =
-    row 4 (not (sound s l))
-    ∷ row 5 (not (late (s .settings .kind)))
-    ∷ row 6 (leb 16777216 tick)
-    ∷ row 11 (isHeld (holding tick (tableOf s l)))
-    ∷ row 9 (ltb (s .settings .gaps) (runs (accept (s .settings) (tableOf s l) tick v)))
+    refusing 4 (not (sound s l))
+    ∷ refusing 5 (not (late (s .settings .kind)))
+    ∷ refusing 6 (leb 16777216 tick)
+    ∷ refusing 11 (isHeld (holding tick (tableOf s l)))
+    ∷ refusing 9 (ltb (s .settings .gaps) (runs (accept (s .settings) (tableOf s l) tick v)))
     ∷ []
 
 abbrev pub lookupRows : State → List ℤ → ℕ → List Row
 lookupRows s l tick =
-    row 4 (not (sound s l))
-    ∷ row 6 (leb 16777216 tick)
-    ∷ row 12 (not (isHeld (holding tick (tableOf s l))))
+    refusing 4 (not (sound s l))
+    ∷ refusing 6 (leb 16777216 tick)
+    ∷ refusing 12 (not (isHeld (holding tick (tableOf s l))))
     ∷ []
 
 -- of row and save: the output has so many places, and the buckets take so many
 abbrev pub writeRows : State → List ℤ → ℕ → ℕ → List Row
 writeRows s l places taken =
-    row 4 (not (sound s l))
-    ∷ row 13 (ltb places taken)
+    refusing 4 (not (sound s l))
+    ∷ refusing 13 (ltb places taken)
     ∷ []
 
 -- ---- what a call says: a refusal's number and place, or none

@@ -25,7 +25,7 @@ pub record Seen (E : ℕ) (s : State) (l : List ℤ) (r : Reading) : Type 0 wher
   pub near : distance (r .value) (level bucket) ≤ E
 
 -- of a trace opened with the settings g
-pub record Kept (g : Settings) (rs : List Reading) (s : State) (l : List ℤ) : Type 0 where
+pub record Upheld (g : Settings) (rs : List Reading) (s : State) (l : List ℤ) : Type 0 where
   -- the kind, B and K named at the opening are those of the state, K in order but for being kept as 0
   pub named : s .settings ≡ kept g
   pub kind-named : s .settings .kind ≡ g .kind

@@ -26,7 +26,7 @@ use Rattle.ndezulangi.specs.declared.Reply.{Reply}
 use Rattle.ndezulangi.specs.declared.Shown.{Shown}
 use Rattle.ndezulangi.specs.Plain.{fieldsOf, kindOf, lateReply, loadReply, lookupReply, nextReply, none, numberOf, openReply, rowReply, saveReply, settingsOf, stateFrom}
 use Rattle.promises.specs.Answered.{Row, fileRows, lateRows, lookupRows, mostSteps, nextRows, openRows, slotsNeeded, writeRows}
-use Rattle.promises.specs.Demands.{Kept}
+use Rattle.promises.specs.Demands.{Upheld}
 use Rattle.promises.specs.Reached.{SameSettings}
 
 -- ---- demand 1, by the rows of the table in Answered.antt
@@ -113,7 +113,7 @@ wroteAll n = record { refusal = 0; place = 0; buckets = n }
 -- of a trace opened with the numbers kind, steps and gaps
 pub record Promised (kind steps gaps : ℕ) (rs : List Reading) (f : Fields) (l : List ℤ) : Type 0 where
   -- demands 2 and 3, as the calls keep them, of the state with these fields
-  pub keeps : Kept (settingsOf kind steps gaps) rs (stateFrom f) l
+  pub keeps : Upheld (settingsOf kind steps gaps) rs (stateFrom f) l
   -- the fields are that state's, and say nothing else
   pub plain : fieldsOf (stateFrom f) ≡ f
   -- the numbers named at the opening: a late kind is 1, and in order K is kept as 0

@@ -12,7 +12,7 @@ use mir.Val.{Fits}
 use Rattle.rule.specs.declared.Bucket.{Bucket}
 use Rattle.rule.specs.Numbers.{recordWidth, word}
 use Rattle.rule.specs.Table.{Table}
-use Rattle.rule.specs.Bytes.{bits, bytes, recordAt, records, recordsOf, saved, savedRecord, wordAt}
+use Rattle.rule.specs.Bytes.{bits, bytes, countFrom, largestFrom, leastFrom, recordAt, records, recordsOf, saved, savedRecord, wordAt}
 use Rattle.rule.proofs.Fitting.{Fitted, Fitting}
 use Rattle.rule.proofs.Stores.{sets-append}
 use Rattle.record.specs.Files.{put}
@@ -54,9 +54,9 @@ record-later l i =
     let at = recordWidth * i in
     rw (
       word-later l recordWidth at (recordWidth * suc i) (omega arith),
-      word-later l recordWidth (at + 4) (recordWidth * suc i + 4) (omega arith),
-      word-later l recordWidth (at + 8) (recordWidth * suc i + 8) (omega arith),
-      word-later l recordWidth (at + 12) (recordWidth * suc i + 12) (omega arith),
+      word-later l recordWidth (at + countFrom) (recordWidth * suc i + countFrom) (omega arith),
+      word-later l recordWidth (at + leastFrom) (recordWidth * suc i + leastFrom) (omega arith),
+      word-later l recordWidth (at + largestFrom) (recordWidth * suc i + largestFrom) (omega arith),
     )
 
 records-later : (l : List ℕ) (i n : ℕ) → records l (suc i) n ≡ records (drop recordWidth l) i n
@@ -110,9 +110,9 @@ module _ (l : List ℕ) (known : (i : ℕ) → getD l i 0 < 256) where
   record-fitting i =
       record {
         start = word-fits (recordWidth * i) .fits;
-        count = word-fits (recordWidth * i + 4) .fits;
-        least = reading-fits (word-fits (recordWidth * i + 8));
-        largest = reading-fits (word-fits (recordWidth * i + 12));
+        count = word-fits (recordWidth * i + countFrom) .fits;
+        least = reading-fits (word-fits (recordWidth * i + leastFrom));
+        largest = reading-fits (word-fits (recordWidth * i + largestFrom));
       }
 
   records-fitted : (i n : ℕ) → Fitted (records l i n)
@@ -146,12 +146,12 @@ module _ (l : List ℕ) (known : (i : ℕ) → getD l i 0 < 256) where
   unfolding savedRecord recordAt
   record-again h =
       rw (
-        bits-reading (word-fits 8),
-        bits-reading (word-fits 12),
+        bits-reading (word-fits leastFrom),
+        bits-reading (word-fits largestFrom),
         bytes-again 0 (omega arith),
-        bytes-again 4 (omega arith),
-        bytes-again 8 (omega arith),
-        bytes-again 12 (omega arith),
+        bytes-again countFrom (omega arith),
+        bytes-again leastFrom (omega arith),
+        bytes-again largestFrom (omega arith),
         take-add 4 12 l,
         take-add 4 8 (drop 4 l),
         drop-drop 4 4 l,
@@ -201,7 +201,7 @@ unfolding bytes
 four-more n k j ys l h = rw h (sym (sets-append l k (bytes n) ys))
 
 pub put-words : (l : List ℕ) (i : ℕ) (b : Bucket) → recordWidth * suc i ≤ length l
-    → sets (sets (sets (sets l (recordWidth * i) (bytes (b .start))) (recordWidth * i + 4) (bytes (b .count))) (recordWidth * i + 8) (bytes (bits (b .least)))) (recordWidth * i + 12) (bytes (bits (b .largest)))
+    → sets (sets (sets (sets l (recordWidth * i) (bytes (b .start))) (recordWidth * i + countFrom) (bytes (b .count))) (recordWidth * i + leastFrom) (bytes (bits (b .least)))) (recordWidth * i + largestFrom) (bytes (bits (b .largest)))
     ≡ put l i b
 unfolding put savedRecord
 put-words l i b h =
@@ -211,7 +211,7 @@ put-words l i b h =
       e,
       ← append-assoc (take k l) (savedRecord b) (drop (k + length (savedRecord b)) l),
       ← sets-eq (savedRecord b) l k (omega arith),
-      four-more (b .start) k (k + 4) _ l (omega arith),
-      four-more (b .count) (k + 4) (k + 8) _ _ (omega arith),
-      four-more (bits (b .least)) (k + 8) (k + 12) _ _ (omega arith),
+      four-more (b .start) k (k + countFrom) _ l (omega arith),
+      four-more (b .count) (k + countFrom) (k + leastFrom) _ _ (omega arith),
+      four-more (bits (b .least)) (k + leastFrom) (k + largestFrom) _ _ (omega arith),
     )

@@ -11,9 +11,19 @@ ghost use Rattle.record.specs.Files.{placeOr, put};
 use rule::Bucket;
 use rule::Kind;
 use rule::RECORD;
+use rule::WORD;
 use rules::RULES;
 use rules::meets;
 use rules::starts_run;
+
+// The bytes of a record's start are its first, and those of its count are from here.
+const COUNT: usize = 4;
+// Those of its least reading are from here.
+const LEAST: usize = 8;
+// Those of its largest reading are from here.
+const LARGEST: usize = 12;
+// No record starts there, so the first of a file begins a run.
+const NOWHERE: usize = WORD as usize;
 
 // That a byte is below 256 is what keeps the sum of a word's four in 32 bits.
 fn wide(b: u8) -> u32
@@ -55,7 +65,7 @@ pub(crate) fn reading(x: u32) -> i32
     if x < 2147483648 {
         x as i32
     } else {
-        (x as i64 - 4294967296) as i32
+        (x as i64 - WORD) as i32
     }
 }
 
@@ -64,7 +74,7 @@ pub(crate) fn bits(v: i32) -> u32
     ensures { λ r. ⌜ r ≡ bits v ⌝ }
 {
     if v < 0 {
-        (v as i64 + 4294967296) as u32
+        (v as i64 + WORD) as u32
     } else {
         v as u32
     }
@@ -78,9 +88,9 @@ pub fn read(file: &[u8], at: usize) -> Bucket
     let from = RECORD * at;
     Bucket {
         start: word(file, from),
-        count: word(file, from + 4),
-        least: reading(word(file, from + 8)),
-        largest: reading(word(file, from + 12)),
+        count: word(file, from + COUNT),
+        least: reading(word(file, from + LEAST)),
+        largest: reading(word(file, from + LARGEST)),
     }
 }
 
@@ -91,9 +101,9 @@ pub fn write(out: &mut [u8], at: usize, b: Bucket)
 {
     let from = RECORD * at;
     put_word(out, from, b.start);
-    put_word(out, from + 4, b.count);
-    put_word(out, from + 8, bits(b.least));
-    put_word(out, from + 12, bits(b.largest));
+    put_word(out, from + COUNT, b.count);
+    put_word(out, from + LEAST, bits(b.least));
+    put_word(out, from + LARGEST, bits(b.largest));
 }
 
 // The index of the first record that breaks a rule, the number of whole records where none does.
@@ -122,19 +132,18 @@ pub fn first_fault(kind: Kind, file: &[u8]) -> usize
 }
 
 // How many runs and readings a file holds.
-pub struct Counted {
+pub struct Contents {
     pub runs: usize,
     pub readings: usize,
 }
 
 // The runs and readings of a file that holds no more readings than there are ticks.
-pub fn counts(file: &[u8]) -> Counted
+pub fn counts(file: &[u8]) -> Contents
     requires { ⌜ readings (recordsOf (now file)) ≤ ticks ⌝ }
     ensures { λ r. ⌜ (r .runs ≡ runs (recordsOf (now (file .entry)))) × (r .readings ≡ readings (recordsOf (now (file .entry)))) ⌝ }
 {
     let n = file.len() / RECORD;
-    // no record starts there, so the first begins a run
-    let mut end = 4294967296;
+    let mut end = NOWHERE;
     let mut runs = 0;
     let mut readings = 0;
     let mut i = 0;
@@ -145,5 +154,5 @@ pub fn counts(file: &[u8]) -> Counted
         end = b.end();
         i += 1;
     }
-    Counted { runs, readings }
+    Contents { runs, readings }
 }

@@ -11,6 +11,7 @@ ghost use Rattle.rule.specs.Table.{readings, runs, runsAfter};
 use rule::Kind;
 use rule::SLOT;
 use rule::State;
+use rule::WORD;
 use rules::first_broken;
 use rules::starts_run;
 use settings::gaps_good;
@@ -23,7 +24,7 @@ use slots::read;
 pub(crate) fn unsigned(z: i64) -> bool
     ensures { λ r. ⌜ r ≡ unsigned z ⌝ }
 {
-    0 <= z && z < 4294967296
+    0 <= z && z < WORD
 }
 
 pub(crate) fn signed(z: i64) -> bool

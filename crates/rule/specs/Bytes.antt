@@ -34,14 +34,24 @@ wordAt l i = getD l i 0 + getD l (i + 1) 0 * 256 + getD l (i + 2) 0 * 65536 + ge
 unfoldable pub reading : ℕ → ℤ
 reading n = cond (ltb n half) (pos n) (negsuc (word - suc n))
 
+-- the bytes of a record's start are its first, and those of the other fields are from here
+abbrev pub countFrom : ℕ
+countFrom = 4
+
+abbrev pub leastFrom : ℕ
+leastFrom = 8
+
+abbrev pub largestFrom : ℕ
+largestFrom = 12
+
 -- the record at index i
 unfoldable pub recordAt : List ℕ → ℕ → Bucket
 recordAt l i =
     record {
       start = wordAt l (recordWidth * i);
-      count = wordAt l (recordWidth * i + 4);
-      least = reading (wordAt l (recordWidth * i + 8));
-      largest = reading (wordAt l (recordWidth * i + 12));
+      count = wordAt l (recordWidth * i + countFrom);
+      least = reading (wordAt l (recordWidth * i + leastFrom));
+      largest = reading (wordAt l (recordWidth * i + largestFrom));
     }
 
 -- n records from index i

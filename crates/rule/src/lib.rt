@@ -12,6 +12,8 @@ pub const MOST: usize = 256;
 pub const SLOT: usize = 4;
 // Bytes of a saved record.
 pub const RECORD: usize = 16;
+// An unsigned number of 32 bits is below this; of a signed one below 0 they say so much more.
+pub const WORD: i64 = 4294967296;
 
 // A start tick, a count of ticks, and the least and largest reading among exactly those ticks.
 pub struct Bucket {

@@ -10,7 +10,7 @@ use lib.Dec.{eqb, ltb}
 use lib.IntN.{ℤ}
 use lib.ListN.{length, take, drop, length-append, length-drop}
 use lib.Seq.{drop-append-add, drop-drop, take-at}
-use Rattle.record.specs.declared.Counted.{Counted}
+use Rattle.record.specs.declared.Contents.{Contents}
 use Rattle.rule.specs.declared.Bucket.{Bucket}
 use Rattle.rule.specs.declared.Kind.{Kind}
 use Rattle.rule.specs.declared.Refusal.{Refusal}
@@ -151,11 +151,11 @@ unfolding inspection
 inspect-refuses (refused q) r e = cc
 inspect-refuses (accepted t) r e = absurd (let z : _≡_ {A = ℕ} 0 1 = cc in omega arith)
 
-counted : (t : Table) (c : Counted) → inspection (accepted t) ≡ Inspected.Counts c → (c .runs ≡ runs t) × (c .readings ≡ readings t)
+counted : (t : Table) (c : Contents) → inspection (accepted t) ≡ Inspected.Counts c → (c .runs ≡ runs t) × (c .readings ≡ readings t)
 unfolding inspection
-counted t c e = let same : c ≡ record { runs = runs t; readings = readings t } = cc in (ap (λ (d : Counted). d .runs) same, ap (λ (d : Counted). d .readings) same)
+counted t c e = let same : c ≡ record { runs = runs t; readings = readings t } = cc in (ap (λ (d : Contents). d .runs) same, ap (λ (d : Contents). d .readings) same)
 
-pub inspect-counts : (s : Settings) (file : List ℕ) (c : Counted) → inspection (fileVerdict s file) ≡ Inspected.Counts c
+pub inspect-counts : (s : Settings) (file : List ℕ) (c : Contents) → inspection (fileVerdict s file) ≡ Inspected.Counts c
     → Loads s file × ((c .runs ≡ runs (recordsOf file)) × (c .readings ≡ readings (recordsOf file)))
 unfolding inspection
 inspect-counts s file c =

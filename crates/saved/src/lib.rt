@@ -11,7 +11,7 @@ ghost use Rattle.rule.specs.Room.{flat, gapsGood, slots, stepsGood};
 ghost use Rattle.slots.specs.Slots.{Filled};
 ghost use Rattle.trace.specs.Answers.{answered};
 ghost use Rattle.saved.specs.Verdicts.{inspection};
-use record::Counted;
+use record::Contents;
 use record::counts;
 use record::first_fault;
 use room::check::sound;
@@ -32,7 +32,7 @@ use trace::Trace;
 
 // The runs and readings of a file that loads, or the refusal.
 pub(crate) enum Inspected {
-    Counts(Counted),
+    Counts(Contents),
     Refused(Refusal),
 }
 

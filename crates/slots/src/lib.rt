@@ -12,6 +12,10 @@ ghost use Rattle.rule.specs.Table.{cheapest, choice};
 ghost use Rattle.slots.specs.Slots.{Filled, costOf, placeOf, put};
 use rule::Bucket;
 use rule::SLOT;
+use rule::WORD;
+
+// Above every spread.
+const ABOVE: u64 = WORD as u64;
 
 // The bucket in slot `at`.
 pub fn read(room: &[i64], at: usize) -> Bucket
@@ -49,7 +53,7 @@ pub fn cheapest(room: &[i64], used: usize) -> usize
     ensures { λ r. ⌜ r ≡ placeOf (cheapest 0 (slots (now (room .entry)) 0 used)) ⌝ }
 {
     let mut place = 0;
-    let mut cost: u64 = 4294967296;
+    let mut cost = ABOVE;
     let mut i = 0;
     while i + 1 < used {
         let c = price(read(room, i), read(room, i + 1));
@@ -69,6 +73,6 @@ pub(crate) fn price(a: Bucket, b: Bucket) -> u64
     if a.neighbours(b) {
         a.union_spread(b) as u64
     } else {
-        4294967296
+        ABOVE
     }
 }

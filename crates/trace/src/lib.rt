@@ -18,6 +18,7 @@ use rule::Refusal;
 use rule::SLOT;
 use rule::Settings;
 use rule::State;
+use rule::TICKS;
 use settings::Admitted;
 use settings::admit;
 use settings::empty;
@@ -25,9 +26,6 @@ use settings::is_late;
 use settings::kept;
 use slots::moves::clear;
 use slots::read;
-
-// The last tick that a trace can hold.
-const LAST: u32 = 16777215;
 
 // The trace's state, with its calls. Each hands the next one back.
 pub struct Trace {
@@ -116,7 +114,7 @@ impl Trace {
             return Answer::Refused(Refusal::Kind);
         }
         let tick = next_tick(&*room, s.used);
-        if (LAST as usize) < tick {
+        if TICKS <= tick {
             return Answer::Refused(Refusal::Tick);
         }
         Answer::Accepted(self.accept(&mut *room, s.used, 1, tick as u32, value))
@@ -135,7 +133,7 @@ impl Trace {
         if !is_late(kind) {
             return Answer::Refused(Refusal::Kind);
         }
-        if LAST < tick {
+        if TICKS <= tick as usize {
             return Answer::Refused(Refusal::Tick);
         }
         let at = find(&*room, s.used, tick);
@@ -157,7 +155,7 @@ impl Trace {
         if !sound(s, room) {
             return Found::Refused(Refusal::Unsound);
         }
-        if LAST < tick {
+        if TICKS <= tick as usize {
             return Found::Refused(Refusal::Tick);
         }
         let at = find(room, s.used, tick);

@@ -49,9 +49,6 @@ next-tick-requires c κs =
     let a = c .before .before .before .before .before .before .before .before in
     sound-filled (a .args .self .state) (a .args .room .now) (sound-facts (a .args .self .state) (a .args .room .now) (whole (c .before .before .before .before)))
 
-cast-if3 : tie.Need-cast-if3
-cast-if3 c = search needs
-
 same-length-3 : tie.Need-same-length-3
 same-length-3 c = search needs
 
@@ -94,7 +91,6 @@ next-spec =
     same-length-2
     returns-2
     next-tick-requires
-    cast-if3
     same-length-3
     returns-3
     cast-accept

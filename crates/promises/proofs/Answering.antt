@@ -1,12 +1,12 @@
 -- Demand 1: the chain of refusals of each call gives the first row that is due, and a refusal leaves what was lent.
-use Prim.Native.Nat.{ℕ, zero, suc, _+_, _*_, _/_, _%_, _≤_, _<_, min}
+use Prim.Native.Nat.{ℕ, zero, suc, _+_, _*_, _/_, _≤_, _<_, min}
 use mathlib.Core.Path.{_≡_, refl, sym, ap, subst, _∙_}
 use mathlib.Core.Bool.{Bool, true, false, cond, false≢true, not, _&&_}
-use mathlib.Core.List.{List, [], _∷_, _++_}
+use mathlib.Core.List.{List, [], _∷_, _++_, map}
 use mathlib.Core.Option.{Option, some, none}
 use native.Mathlib.Omega.{arith}
-use borrow.Author.Tests.{eq-eqb, eqb-true, le-leb, le-ltb, leb-false, leb-true, lt-ltb, ne-eqb, not-false}
-use lib.Dec.{eqb, leb, ltb}
+use borrow.Author.Tests.{eq-eqb, eqb-true, le-leb, le-ltb, leb-false, leb-true, lt-ltb, ne-eqb}
+use lib.Dec.{leb, ltb}
 use lib.IntN.{ℤ}
 use lib.ListN.{drop, length}
 use Rattle.rule.specs.declared.Bucket.{Bucket}
@@ -18,12 +18,12 @@ use Rattle.rule.specs.declared.State.{State}
 use Rattle.rule.specs.declared.Tally.{Tally}
 use Rattle.rule.specs.Answers.{number, place}
 use Rattle.rule.specs.Bytes.{recordsOf, saved}
-use Rattle.rule.specs.Calls.{Verdict, accepted, admitted, counted, fileVerdict, found, foundOf, gapsKept, grown, isHeld, kept, late, lateVerdict, loaded, loadVerdict, lookupOutcome, nextVerdict, refuse, refuseFault, refused, traced, writeVerdict, wrote}
+use Rattle.rule.specs.Calls.{Check, Verdict, accepted, admitted, checked, counted, fileVerdict, found, foundOf, gapsKept, grown, isHeld, kept, late, lateVerdict, loaded, loadVerdict, lookupOutcome, nextVerdict, refused, traced, writeVerdict, wrote}
 use Rattle.rule.specs.Numbers.{most, recordWidth, slotWidth, tallyMost, ticks, word}
 use Rattle.rule.specs.Files.{Finds, FirstBroken, meets}
 use Rattle.rule.specs.Room.{flat, laid, signed, gapsBounded, gapsGood, roomy, runsAllowed, sound, stepsGood, tableOf}
-use Rattle.rule.specs.Rules.{Fault, fault, firstFault, follows, isWhole, ruled, whole}
-use Rattle.rule.specs.Table.{Table, accept, holding, insert, limit, limitOver, needed, nextTick, runs, single}
+use Rattle.rule.specs.Rules.{Fault, fault, firstFault, follows, isWhole, placeOr, ruled, whole}
+use Rattle.rule.specs.Table.{Table, accept, holding, insert, limitOver, needed, runs, single}
 use Rattle.rule.proofs.Merging.{settle-runs}
 use Rattle.rule.proofs.Ruling.{Meets, facts-meets, first-is-first, meets-facts}
 use Rattle.rule.proofs.Signed.{signed-fits}
@@ -35,22 +35,22 @@ use Rattle.trace.proofs.Leaving.{late-either, next-either, open-either}
 use Rattle.saved.proofs.Filing.{load-accepts, load-leaves, loads-needed}
 use Rattle.promises.proofs.Outcomes.{traced-refused}
 use Rattle.rule.proofs.Whole.{by-test}
-use Rattle.promises.specs.Answered.{Answered, Demand1, Lawful, Row, fileRows, firstOf, indexOf, lateRows, lookupRows, nextRows, openRows, outside, refusing, said, slotsNeeded, saidFound, saidWritten, writeRows}
+use Rattle.promises.specs.Answered.{Answered, Demand1, Lawful, Row, fileRows, firstOf, lateRows, lookupRows, nextRows, openRows, outside, refusing, said, slotsNeeded, saidFound, saidWritten, writeRows}
 
--- ---- one link of a chain and one row
+-- ---- a call's checks and the table's rows
 
-module _ {A : Type 0} where
-  link : (c d : Bool) (r : Refusal) (v : Verdict A) (rows : List Row) → c ≡ d → (c ≡ false → said v ≡ firstOf rows)
-      → said (refuse c r v) ≡ firstOf (record { number = number r; place = place r; due = d } ∷ rows)
-  unfolding said refuse firstOf
-  link true d r v rows e k = rw (sym e)
-  link false d r v rows e k = rw (sym e) (k refl)
+abbrev asRow : Check → Row
+asRow c = record { number = number (c .1); place = place (c .1); due = c .0 }
 
-  fault-link : (f : Fault) (v : Verdict A) (rows : List Row) → said v ≡ firstOf rows
-      → said (refuseFault f v) ≡ firstOf (record { number = 8; place = indexOf f; due = not (isWhole f) } ∷ rows)
-  unfolding said refuseFault firstOf indexOf isWhole
-  fault-link whole v rows k = k
-  fault-link (fault i r) v rows k = refl
+said-checks : {A : Type 0} (l : List Check) (v : Verdict A) (rows : List Row) → said v ≡ firstOf rows → said (checked l v) ≡ firstOf (map asRow l ++ rows)
+unfolding said checked firstOf
+said-checks [] v rows e = e
+said-checks ((true, r) ∷ l) v rows e = refl
+said-checks ((false, r) ∷ l) v rows e = said-checks l v rows e
+
+said-all : {A : Type 0} (l : List Check) (a : A) → said (checked l (accepted a)) ≡ firstOf (map asRow l ++ [])
+unfolding said firstOf
+said-all l a = said-checks l (accepted a) [] refl
 
 -- ---- the conditions, as the definitions say them and as document 01 does
 
@@ -129,20 +129,11 @@ written form out (accepted t) rows e = record { exactly = e; untouched = λ q f.
 
 admits : (g : Settings) (l : List ℤ) (v : Verdict Table) (rows : List Row) → said v ≡ firstOf rows → said (admitted (kept g) l v) ≡ firstOf (openRows g l ++ rows)
 unfolding admitted
-admits g l v rows e =
-    link (not (stepsGood (kept g))) _ Refusal.Steps _ _ (steps-due (kept g)) (λ a.
-    link (not (gapsGood (g .kind) (gapsKept (g .kind) (g .gaps)))) _ Refusal.Gaps _ _ (gaps-due (g .kind) (g .gaps)) (λ b.
-    link (not (roomy (kept g) l)) _ Refusal.Room _ _ (room-due g l) (λ c. e)))
-
-nothing : {A : Type 0} (a : A) → said (accepted a) ≡ firstOf []
-unfolding said firstOf
-nothing a = refl
+admits g l v rows e = said-checks _ v rows e ∙ rw (steps-due (kept g), gaps-due (g .kind) (g .gaps), room-due g l)
 
 writes : (s : State) (l : List ℤ) (places taken : ℕ) → said (writeVerdict s l taken places) ≡ firstOf (writeRows s l places taken)
 unfolding writeVerdict
-writes s l places taken =
-    link (not (sound s l)) _ Refusal.Unsound _ _ refl (λ a.
-    link (ltb places taken) _ Refusal.Short _ _ refl (λ b. nothing _))
+writes s l places taken = said-all _ _
 
 absent : (o : Option Bucket) → saidFound (found o) ≡ firstOf (refusing 12 (not (isHeld o)) ∷ [])
 unfolding saidFound found firstOf isHeld
@@ -150,7 +141,7 @@ absent none = refl
 absent (some b) = refl
 
 looked : (s : State) (l : List ℤ) (tick : ℕ) → saidFound (lookupOutcome s l tick) ≡ firstOf (lookupRows s l tick)
-unfolding lookupOutcome foundOf refuse firstOf saidFound
+unfolding lookupOutcome foundOf checked firstOf saidFound
 looked s l tick =
     by-test (sound s l)
     (λ fit. by-test (leb ticks tick) (λ h. rw (fit, h)) (λ h. rw (fit, h) (absent (holding tick (tableOf s l)))))
@@ -166,11 +157,7 @@ told t used (accepted s) r e = absurd (none-given r e)
 loading : (g : Settings) (file : List ℕ) (l : List ℤ) → said (loadVerdict (kept g) file l) ≡ firstOf (openRows g l ++ fileRows g file)
 unfolding fileVerdict ruled
 loading g file l =
-    admits g l _ _
-    (link (not (eqb (length file % recordWidth) 0)) _ Refusal.Length _ _ refl (λ a.
-    fault-link (firstFault (g .kind) 0 0 (recordsOf file)) _ _
-    (link (not (runsAllowed (g .kind) (gapsKept (g .kind) (g .gaps)) (runs (recordsOf file)))) _ Refusal.Runs _ _ (runs-due (g .kind) (g .gaps) (runs (recordsOf file))) (λ b.
-    link (ltb (limit (kept g) (runs (recordsOf file))) (length (recordsOf file))) _ Refusal.Overfull _ _ (ap (λ (n : ℕ). ltb n (length (recordsOf file))) (limit-is (g .kind) (2 * g .steps) (runs (recordsOf file)))) (λ c. nothing _)))))
+    admits g l _ _ (said-all _ _ ∙ rw (runs-due (g .kind) (g .gaps) (runs (recordsOf file)), limit-is (g .kind) (2 * g .steps) (runs (recordsOf file))))
 
 -- a row of another number is not the one given
 other : (n : ℕ) (c : Bool) (rows : List Row) (i : ℕ) → (n ≡ 8 → ⊥) → firstOf (refusing n c ∷ rows) ≡ some (8, i) → firstOf rows ≡ some (8, i)
@@ -179,8 +166,8 @@ other n true rows i differs e = absurd (differs (ap (λ (r : ℕ × ℕ). r .0) 
 other n false rows i differs e = e
 
 first-of : (k : Kind) (file : List ℕ) (f : Fault) (rows : List Row) (i : ℕ) → (firstOf rows ≡ some (8, i) → ⊥) → Finds k file f
-    → firstOf (record { number = 8; place = indexOf f; due = not (isWhole f) } ∷ rows) ≡ some (8, i) → FirstBroken k file i
-unfolding firstOf indexOf isWhole Finds
+    → firstOf (record { number = 8; place = placeOr 0 f; due = not (isWhole f) } ∷ rows) ≡ some (8, i) → FirstBroken k file i
+unfolding firstOf placeOr isWhole Finds
 first-of k file whole rows i later h e = absurd (later e)
 first-of k file (fault j r) rows i later h e = subst (FirstBroken k file) (ap (λ (r : ℕ × ℕ). r .1) (given (8, j) (8, i) e)) h
 
@@ -250,20 +237,12 @@ load-past g file l (accepted t, m) e =
     ap (drop (slotWidth * needed (kept g))) left ∙ drop-laid (needed (kept g)) (recordsOf file) l (omega (arith, loads-needed (kept g) file (a .1))) (needed (kept g)) (omega arith)
 
 pub demand1 : Demand1
-unfolding nextVerdict lateVerdict lookupOutcome writeVerdict ruled
+unfolding nextVerdict lateVerdict lookupOutcome writeVerdict ruled said firstOf
 demand1 = record {
-  opens = λ g l. answered (kept g) l (admitted (kept g) l (accepted [])) (openRows g l) (admits g l (accepted []) [] (nothing []));
-  nexts = λ s l v. answered (s .settings) l (nextVerdict s l v) (nextRows s l)
-      (link (not (sound s l)) _ Refusal.Unsound _ _ refl (λ a.
-      link (late (s .settings .kind)) _ Refusal.Kind _ _ refl (λ b.
-      link (leb ticks (nextTick (tableOf s l))) _ Refusal.Tick _ _ refl (λ c. nothing _))));
+  opens = λ g l. answered (kept g) l (admitted (kept g) l (accepted [])) (openRows g l) (admits g l (accepted []) [] refl);
+  nexts = λ s l v. answered (s .settings) l (nextVerdict s l v) (nextRows s l) (said-all _ _);
   lates = λ s l tick v. answered (s .settings) l (lateVerdict s l tick v) (lateRows s l tick v)
-      (link (not (sound s l)) _ Refusal.Unsound _ _ refl (λ a.
-      link (not (late (s .settings .kind))) _ Refusal.Kind _ _ refl (λ b.
-      link (leb ticks tick) _ Refusal.Tick _ _ refl (λ c.
-      link (isHeld (holding tick (tableOf s l))) _ Refusal.Taken _ _ refl (λ d.
-      link (ltb (s .settings .gaps) (runs (insert (single tick v) (tableOf s l)))) _ Refusal.Runs _ _
-      (ap (ltb (s .settings .gaps)) (accepted-runs (s .settings) (tableOf s l) tick v (not-false (late (s .settings .kind)) b))) (λ e. nothing _))))));
+      (said-all _ _ ∙ by-test (late (s .settings .kind)) (λ h. rw (accepted-runs (s .settings) (tableOf s l) tick v h)) (λ h. rw h));
   lookups = λ s l tick. looked s l tick;
   rows = λ s l out. written (λ t. t) out (writeVerdict s l (s .used) (length out)) (writeRows s l (length out) (s .used)) (writes s l (length out) (s .used));
   saves = λ s l out. written saved out (writeVerdict s l (recordWidth * s .used) (length out)) (writeRows s l (length out) (recordWidth * s .used)) (writes s l (length out) (recordWidth * s .used));

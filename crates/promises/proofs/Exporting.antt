@@ -19,7 +19,7 @@ use Rattle.rule.specs.declared.Written.{Written}
 use Rattle.rule.specs.Answers.{number, place}
 use Rattle.rule.specs.Bucket.{distance}
 use Rattle.rule.specs.Bytes.{saved}
-use Rattle.rule.specs.Calls.{Verdict, accepted, found, foundOf, isHeld, kept, late, lateOutcome, lateVerdict, loaded, lookupOutcome, nextOutcome, nextVerdict, opened, refuse, refused, saveOutcome, traced, writeVerdict, wrote}
+use Rattle.rule.specs.Calls.{Verdict, accepted, checked, found, foundOf, isHeld, kept, late, lateOutcome, lateVerdict, loaded, lookupOutcome, nextOutcome, nextVerdict, opened, refused, saveOutcome, traced, writeVerdict, wrote}
 use Rattle.rule.specs.Numbers.{recordWidth, slotWidth, ticks}
 use Rattle.rule.specs.Room.{allOf, clauses, flat, sound, stepsGood, tableOf}
 use Rattle.rule.specs.Table.{Table, holding, holds, needed, worst}
@@ -78,7 +78,7 @@ eight back (refused r) e = ap (λ (n : ℕ). some (n, place r)) e
 eight back (accepted s) e = absurd (omega arith)
 
 pub exported-demand1 : ExportedDemand1
-unfolding sound clauses allOf stepsGood nextVerdict lateVerdict lookupOutcome foundOf writeVerdict refuse traced wrote answer replying showing telling kindOf
+unfolding sound clauses allOf stepsGood nextVerdict lateVerdict lookupOutcome foundOf writeVerdict checked traced wrote answer replying showing telling kindOf
 exported-demand1 = record {
   opens = λ kind steps gaps l. let g = settingsOf kind steps gaps in replies none (opened g l .0) (openRows g l) l (opened g l .1) (demand1 .opens g l);
   nexts = λ f l v. let s = stateFrom f in replies f (nextOutcome s l v .0) (nextRows s l) l (nextOutcome s l v .1) (demand1 .nexts s l v);
@@ -182,7 +182,7 @@ found-error tick [] = omega arith
 found-error tick (b ∷ t) = by-test (holds tick b) (λ h. rw h (omega arith)) (λ h. rw h (omega (arith, found-error tick t)))
 
 shown-error : (f : Fields) (l : List ℤ) (tick : ℕ) → lookupReply f l tick .error ≤ worst (tableOf (stateFrom f) l)
-unfolding showing lookupOutcome foundOf refuse
+unfolding showing lookupOutcome foundOf checked
 shown-error f l tick =
     by-test (sound (stateFrom f) l)
     (λ fit. by-test (leb ticks tick) (λ h. rw (fit, h) (omega arith)) (λ h. rw (fit, h) (found-error tick (tableOf (stateFrom f) l))))
@@ -198,7 +198,7 @@ looked f l tick false fit h small = ap (λ (x : ℕ × ℕ). x .0) (exported-dem
 
 wrote-all : {A : Type 0} (form : Table → List A) (width : ℕ) (f : Fields) (l : List ℤ) (out : List A) → ((t : Table) → length (form t) ≡ width * length t) → sound (stateFrom f) l ≡ true → width * f .used ≤ length out
     → told (wrote form out (writeVerdict (stateFrom f) l (width * f .used) (length out))) ≡ (wroteAll (f .used), form (tableOf (stateFrom f) l) ++ drop (width * f .used) out)
-unfolding writeVerdict refuse wrote telling
+unfolding writeVerdict checked wrote telling
 wrote-all form width f l out wide fit h = rw (fit, le-ltb (length out) (width * f .used) h, wide (tableOf (stateFrom f) l), length-slots l 0 (f .used))
 
 same-test : (c d : Bool) → one c ≡ one d → c ≡ d

@@ -17,7 +17,7 @@ use Rattle.rule.specs.declared.State.{State}
 use Rattle.rule.specs.declared.Found.{Found}
 use Rattle.rule.specs.Bucket.{end, error, level}
 use Rattle.rule.specs.Bytes.{saved}
-use Rattle.rule.specs.Calls.{Verdict, accepted, foundOf, found, gapsKept, isHeld, kept, late, lateVerdict, loaded, loadVerdict, lookupOutcome, nextVerdict, admitted, refuse, stateOf, traced}
+use Rattle.rule.specs.Calls.{Verdict, accepted, checked, foundOf, found, gapsKept, isHeld, kept, late, lateVerdict, loaded, loadVerdict, lookupOutcome, nextVerdict, admitted, stateOf, traced}
 use Rattle.rule.specs.Numbers.{recordWidth, ticks}
 use Rattle.rule.specs.Room.{laid, slots, sound, tableOf}
 use Rattle.rule.specs.Table.{Table, Ordered, accept, holders, holding, holds, lastEnd, limit, needed, nextTick, readings, runs}
@@ -173,7 +173,7 @@ held-is e tick (a ∷ t) b o m h =
 
 shows : (s : State) (l : List ℤ) (tick : ℕ) (b : Bucket) → sound s l ≡ true → tick < ticks → holding tick (tableOf s l) ≡ some b
     → lookupOutcome s l tick ≡ Found.Level (level b) (error b) (b .least) (b .largest)
-unfolding lookupOutcome foundOf refuse found
+unfolding lookupOutcome foundOf checked found
 shows s l tick b fit small h = rw (fit, lt-leb ticks tick small, h)
 
 -- in order each bucket starts where the one before it ends, so the end is that of the counts

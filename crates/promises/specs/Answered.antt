@@ -20,7 +20,7 @@ use Rattle.rule.specs.Bytes.{recordsOf}
 use Rattle.rule.specs.Calls.{Verdict, accepted, counted, isHeld, late, lateOutcome, loaded, lookupOutcome, nextOutcome, opened, refused, rowOutcome, saveOutcome}
 use Rattle.rule.specs.Files.{FirstBroken, meets}
 use Rattle.rule.specs.Room.{allOf, signed, sound, tableOf}
-use Rattle.rule.specs.Rules.{Fault, fault, firstFault, ruled, rules, whole}
+use Rattle.rule.specs.Rules.{firstFault, placeOr, ruled, rules}
 use Rattle.rule.specs.Table.{accept, holding, nextTick, runs}
 use Rattle.row.specs.Parts.{numbersOutcome}
 
@@ -46,11 +46,6 @@ firstOf (r ∷ rs) = cond (r .due) (some (r .number, r .place)) (firstOf rs)
 unfoldable pub outside : ℕ → Bool
 outside n = eqb n 0 || ltb 256 n
 
--- the index of the first record that breaks a rule
-unfoldable pub indexOf : Fault → ℕ
-indexOf whole = 0
-indexOf (fault i r) = i
-
 -- at most 2B steps, late one more for each of so many runs
 abbrev pub mostSteps : Settings → ℕ → ℕ
 mostSteps g runs = 2 * g .steps + cond (late (g .kind)) runs 0
@@ -69,7 +64,7 @@ openRows g l =
 abbrev pub fileRows : Settings → List ℕ → List Row
 fileRows g file =
     refusing 7 (not (eqb (length file % 16) 0))
-    ∷ record { number = 8; place = indexOf (firstFault (g .kind) 0 0 (recordsOf file)); due = not (ruled (g .kind) (recordsOf file)) }
+    ∷ record { number = 8; place = placeOr 0 (firstFault (g .kind) 0 0 (recordsOf file)); due = not (ruled (g .kind) (recordsOf file)) }
     ∷ refusing 9 (late (g .kind) && ltb (g .gaps) (runs (recordsOf file)))
     ∷ refusing 10 (ltb (mostSteps g (runs (recordsOf file))) (length (recordsOf file)))
     ∷ []

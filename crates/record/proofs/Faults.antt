@@ -11,17 +11,14 @@ use lib.Dec.{eqb}
 use lib.ListN.{length}
 use Rattle.rule.specs.declared.Bucket.{Bucket}
 use Rattle.rule.specs.declared.Kind.{Kind}
-use Rattle.rule.specs.declared.Refusal.the-variants.{Record}
 use Rattle.rule.specs.Numbers.{recordWidth, word}
 use Rattle.rule.specs.Bucket.{end}
 use Rattle.rule.specs.Table.{Table, readings, runs, runsAfter}
 use Rattle.rule.specs.Bytes.{recordAt, records, recordsOf}
-use Rattle.rule.specs.Rules.{Fault, whole, fault, broken, faultAt, firstFault}
-use Rattle.rule.specs.Calls.{Verdict, refused, refuseFault}
+use Rattle.rule.specs.Rules.{Fault, whole, fault, broken, faultAt, firstFault, isWhole, placeOr}
 use Rattle.rule.proofs.Fitting.{Fitted}
 use Rattle.rules.specs.Numbered.{meets}
 use Rattle.rules.proofs.Numbered.{met}
-use Rattle.record.specs.Files.{placeOr}
 
 -- ---- the pass
 
@@ -89,10 +86,10 @@ pub file-whole : (k : Kind) (l : List ℕ) → length l / recordWidth ≤ placeO
 file-whole k l p = past-all k 0 0 (recordsOf l) (length l / recordWidth) (omega (arith, length-file l)) p
 
 -- and else the place of the refusal
-pub file-refused : {A : Type 0} (n : ℕ) (f : Fault) (v : Verdict A) → placeOr n f < n → refuseFault f v ≡ refused (Record (placeOr n f))
-unfolding placeOr refuseFault
-file-refused n whole v h = absurd (omega arith)
-file-refused n (fault i r) v h = refl
+pub file-refused : (n : ℕ) (f : Fault) → placeOr n f < n → (isWhole f ≡ false) × (placeOr 0 f ≡ placeOr n f)
+unfolding placeOr isWhole
+file-refused n whole h = absurd (omega arith)
+file-refused n (fault i r) h = (refl, refl)
 
 -- ---- runs and readings
 

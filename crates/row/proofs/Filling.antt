@@ -1,11 +1,10 @@
 -- The row as the loop writes it, one place after the other, and what the answer says of the trace.
 use Prim.Native.Nat.{ℕ, suc, _+_, _*_, _≤_, _<_}
 use mathlib.Core.Path.{_≡_, refl, sym, ap, _∙_}
-use mathlib.Core.Bool.{true, not}
+use mathlib.Core.Bool.{true}
 use mathlib.Core.List.{List, _++_}
 use native.Mathlib.Omega.{arith}
 use borrow.Author.Tests.{le-ltb, ltb-false, not-false}
-use lib.Dec.{ltb}
 use lib.IntN.{ℤ}
 use lib.ListN.{length, take, drop, getD, set, length-append, length-drop}
 use lib.Seq.{append-snoc, drop-cons, set-at, take-at}
@@ -13,12 +12,12 @@ use Rattle.rule.specs.declared.Refusal.{Refusal}
 use Rattle.rule.specs.declared.State.{State}
 use Rattle.rule.specs.declared.Written.{Written}
 use Rattle.rule.specs.Numbers.{slotWidth}
-use Rattle.rule.specs.Calls.{Verdict, accepted, refuse, refused, rowOutcome, writeVerdict, wrote}
+use Rattle.rule.specs.Calls.{Verdict, accepted, checked, refused, rowOutcome, writeVerdict, wrote}
 use Rattle.rule.specs.Room.{flat, slot, slotRanged, slots, sound, tableOf}
 use Rattle.rule.specs.Table.{Table}
 use Rattle.slots.proofs.Laying.{flat-slots, length-flat, length-slots, slots-split}
 use Rattle.slots.proofs.Reading.{filled}
-use Rattle.settings.proofs.Granting.{past-refusal}
+use Rattle.settings.proofs.Granting.{Unrefused, past-checks}
 use Rattle.room.proofs.Sounding.{sound-facts, sound-filled}
 use Rattle.row.specs.Parts.{answer, number, numbersOutcome, rowAnswer, upTo}
 
@@ -40,10 +39,9 @@ one-more l i out h =
 module _ (s : State) (l : List ℤ) where
   -- what holds of every refusal, and of the buckets of a sound trace that have place, holds of what is to be written
   pub write-either : (taken places : ℕ) (P : Verdict Table → Type 0) → ((r : Refusal) → P (refused r)) → (sound s l ≡ true → taken ≤ places → P (accepted (tableOf s l))) → P (writeVerdict s l taken places)
-  unfolding writeVerdict
+  unfolding writeVerdict Unrefused
   write-either taken places P refuses writes =
-      past-refusal P (not (sound s l)) Refusal.Unsound _ (refuses Refusal.Unsound)
-      (λ a. past-refusal P (ltb places taken) Refusal.Short _ (refuses Refusal.Short) (λ b. writes (not-false _ a) (ltb-false places taken b)))
+      past-checks P refuses _ _ (λ p. writes (not-false _ (p .0)) (ltb-false places taken (p .1 .0)))
 
   pub number-fits : (n : ℕ) → number (rowAnswer s l n) ≤ n
   unfolding answer number
@@ -62,7 +60,7 @@ module _ (s : State) (l : List ℤ) where
 
   -- the used numbers of a sound room are the buckets' own
   pub numbers-written : (out : List ℤ) → sound s l ≡ true → slotWidth * s .used ≤ length out → numbersOutcome s l out ≡ (Written.Buckets (s .used), take (slotWidth * s .used) l ++ drop (slotWidth * s .used) out)
-  unfolding writeVerdict refuse wrote
+  unfolding writeVerdict checked wrote
   numbers-written out e h =
       let f = sound-filled s l (sound-facts s l e) in
       let long : length (flat (tableOf s l)) ≡ slotWidth * s .used = length-flat (tableOf s l) ∙ ap (λ (n : ℕ). slotWidth * n) (length-slots l 0 (s .used)) in

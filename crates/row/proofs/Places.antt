@@ -10,7 +10,7 @@ use Rattle.rule.specs.declared.Bucket.{Bucket}
 use Rattle.rule.specs.declared.Refusal.{Refusal}
 use Rattle.rule.specs.declared.State.{State}
 use Rattle.rule.specs.declared.Written.{Written}
-use Rattle.rule.specs.Calls.{refuse, rowOutcome, wrote}
+use Rattle.rule.specs.Calls.{checked, rowOutcome, wrote}
 use Rattle.rule.specs.Room.{slot, slots, tableOf}
 use Rattle.rule.specs.Table.{Table}
 use Rattle.slots.proofs.Laying.{length-slots}
@@ -68,7 +68,7 @@ module _ (s : State) (l : List ℤ) (out : Table) where
 
     -- each of them is what a caller of its place is handed
     pub row-part : (i : ℕ) (d : Bucket) → i < n → partOutcome s l i ≡ Part.Is (getD (rowOutcome s l out .1) i d)
-    unfolding wrote number partOutcome parted refuse
+    unfolding wrote number partOutcome parted checked
     row-part i d within =
         write-either s l (s .used) (length out) (λ v. let o = wrote (λ t. t) out v in o .0 ≡ Written.Buckets n → partOutcome s l i ≡ Part.Is (getD (o .1) i d)) (λ r k. absurd (other r n k))
         (λ e h k. let inside : i < length (tableOf s l) = omega (arith, ap number k) in

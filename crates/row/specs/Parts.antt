@@ -9,7 +9,7 @@ use Rattle.rule.specs.declared.State.{State}
 use Rattle.rule.specs.declared.Written.{Written}
 use Rattle.rule.specs.declared.Written.the-variants.{Buckets, Refused}
 use Rattle.rule.specs.Numbers.{slotWidth}
-use Rattle.rule.specs.Calls.{Verdict, accepted, refuse, refused, wrote, writeVerdict}
+use Rattle.rule.specs.Calls.{Verdict, accepted, checked, refused, wrote, writeVerdict}
 use Rattle.rule.specs.Room.{flat, slots, sound, tableOf}
 use Rattle.rule.specs.Table.{Table}
 use Rattle.row.specs.declared.Part.{Part}
@@ -44,7 +44,7 @@ parted (accepted t) i = part t i
 
 -- refusal 4, or place i of the buckets of state and room
 unfoldable pub partOutcome : State → List ℤ → ℕ → Part
-partOutcome s l i = parted (refuse (not (sound s l)) Refusal.Unsound (accepted (tableOf s l))) i
+partOutcome s l i = parted (checked ((not (sound s l), Refusal.Unsound) ∷ []) (accepted (tableOf s l))) i
 
 -- the row in numbers, four to a bucket as in the room
 abbrev pub numbersOutcome : State → List ℤ → List ℤ → Written × List ℤ

@@ -1,7 +1,7 @@
 -- What each call answers and leaves: the refusals first, in document 01's order, the first that holds being the one given.
 use Prim.Native.Nat.{ℕ, _+_, _*_, _-_, _%_, min}
-use mathlib.Core.Bool.{Bool, true, false, not}
-use mathlib.Core.List.{List, [], _++_}
+use mathlib.Core.Bool.{Bool, true, false, cond, not}
+use mathlib.Core.List.{List, [], _∷_, _++_}
 use mathlib.Core.Option.{Option, some, none}
 use lib.Dec.{eqb, leb, ltb}
 use lib.IntN.{ℤ}
@@ -18,7 +18,7 @@ use Rattle.rule.specs.declared.Tally.{Tally}
 use Rattle.rule.specs.Numbers.{ticks, recordWidth, tallyMost}
 use Rattle.rule.specs.Bucket.{level, error}
 use Rattle.rule.specs.Table.{Table, accept, holding, insert, limit, needed, nextTick, readings, runs, single}
-use Rattle.rule.specs.Rules.{Fault, whole, fault, firstFault}
+use Rattle.rule.specs.Rules.{firstFault, placeOr, ruled}
 use Rattle.rule.specs.Room.{gapsGood, laid, roomy, runsAllowed, sound, stepsGood, tableOf}
 use Rattle.rule.specs.Bytes.{recordsOf, saved}
 
@@ -28,10 +28,14 @@ pub data Verdict (A : Type 0) : Type 0 where
   refused : Refusal → Verdict A
   accepted : A → Verdict A
 
--- refuse where the test holds, else go on
-unfoldable pub refuse : {A : Type 0} → Bool → Refusal → Verdict A → Verdict A
-refuse true r v = refused r
-refuse false r v = v
+-- a test, and the refusal that is given where it holds
+abbrev pub Check : Type 0
+Check = Bool × Refusal
+
+-- the first refusal whose test holds is the one given; where none does, go on
+unfoldable pub checked : {A : Type 0} → List Check → Verdict A → Verdict A
+checked [] v = v
+checked (c ∷ l) v = cond (c .0) (refused (c .1)) (checked l v)
 
 -- the state of a trace whose buckets are t
 abbrev pub stateOf : Settings → Table → State
@@ -64,9 +68,11 @@ kept s = record { kind = s .kind; steps = s .steps; gaps = gapsKept (s .kind) (s
 -- what open and load ask of settings and room, before they go on
 unfoldable pub admitted : Settings → List ℤ → Verdict Table → Verdict Table
 admitted s l v =
-    refuse (not (stepsGood s)) Refusal.Steps
-    (refuse (not (gapsGood (s .kind) (s .gaps))) Refusal.Gaps
-    (refuse (not (roomy s l)) Refusal.Room v))
+    checked
+    ((not (stepsGood s), Refusal.Steps)
+    ∷ (not (gapsGood (s .kind) (s .gaps)), Refusal.Gaps)
+    ∷ (not (roomy s l), Refusal.Room)
+    ∷ []) v
 
 abbrev pub opened : Settings → List ℤ → Verdict State × List ℤ
 opened s l = traced (kept s) l (admitted (kept s) l (accepted []))
@@ -75,10 +81,11 @@ opened s l = traced (kept s) l (admitted (kept s) l (accepted []))
 
 unfoldable pub nextVerdict : State → List ℤ → ℤ → Verdict Table
 nextVerdict s l v =
-    refuse (not (sound s l)) Refusal.Unsound
-    (refuse (late (s .settings .kind)) Refusal.Kind
-    (refuse (leb ticks (nextTick (tableOf s l))) Refusal.Tick
-    (accepted (accept (s .settings) (tableOf s l) (nextTick (tableOf s l)) v))))
+    checked
+    ((not (sound s l), Refusal.Unsound)
+    ∷ (late (s .settings .kind), Refusal.Kind)
+    ∷ (leb ticks (nextTick (tableOf s l)), Refusal.Tick)
+    ∷ []) (accepted (accept (s .settings) (tableOf s l) (nextTick (tableOf s l)) v))
 
 abbrev pub nextOutcome : State → List ℤ → ℤ → Verdict State × List ℤ
 nextOutcome s l v = traced (s .settings) l (nextVerdict s l v)
@@ -89,12 +96,13 @@ isHeld (some b) = true
 
 unfoldable pub lateVerdict : State → List ℤ → ℕ → ℤ → Verdict Table
 lateVerdict s l tick v =
-    refuse (not (sound s l)) Refusal.Unsound
-    (refuse (not (late (s .settings .kind))) Refusal.Kind
-    (refuse (leb ticks tick) Refusal.Tick
-    (refuse (isHeld (holding tick (tableOf s l))) Refusal.Taken
-    (refuse (ltb (s .settings .gaps) (runs (insert (single tick v) (tableOf s l)))) Refusal.Runs
-    (accepted (accept (s .settings) (tableOf s l) tick v))))))
+    checked
+    ((not (sound s l), Refusal.Unsound)
+    ∷ (not (late (s .settings .kind)), Refusal.Kind)
+    ∷ (leb ticks tick, Refusal.Tick)
+    ∷ (isHeld (holding tick (tableOf s l)), Refusal.Taken)
+    ∷ (ltb (s .settings .gaps) (runs (insert (single tick v) (tableOf s l))), Refusal.Runs)
+    ∷ []) (accepted (accept (s .settings) (tableOf s l) tick v))
 
 abbrev pub lateOutcome : State → List ℤ → ℕ → ℤ → Verdict State × List ℤ
 lateOutcome s l tick v = traced (s .settings) l (lateVerdict s l tick v)
@@ -112,18 +120,20 @@ foundOf (accepted b) = found b
 unfoldable pub lookupOutcome : State → List ℤ → ℕ → Found
 lookupOutcome s l tick =
     foundOf
-    (refuse (not (sound s l)) Refusal.Unsound
-    (refuse (leb ticks tick) Refusal.Tick
-    (accepted (holding tick (tableOf s l)))))
+    (checked
+    ((not (sound s l), Refusal.Unsound)
+    ∷ (leb ticks tick, Refusal.Tick)
+    ∷ []) (accepted (holding tick (tableOf s l))))
 
 -- ---- row and save: 4, 13
 
 -- the output has `room` places, and the buckets take `taken`
 unfoldable pub writeVerdict : State → List ℤ → ℕ → ℕ → Verdict Table
 writeVerdict s l taken room =
-    refuse (not (sound s l)) Refusal.Unsound
-    (refuse (ltb room taken) Refusal.Short
-    (accepted (tableOf s l)))
+    checked
+    ((not (sound s l), Refusal.Unsound)
+    ∷ (ltb room taken, Refusal.Short)
+    ∷ []) (accepted (tableOf s l))
 
 abbrev pub rowOutcome : State → List ℤ → List Bucket → Written × List Bucket
 rowOutcome s l out = wrote (λ t. t) out (writeVerdict s l (s .used) (length out))
@@ -133,18 +143,15 @@ saveOutcome s l out = wrote saved out (writeVerdict s l (recordWidth * s .used) 
 
 -- ---- load: 1, 2, 3, 7, 8, 9, 10
 
-unfoldable pub refuseFault : {A : Type 0} → Fault → Verdict A → Verdict A
-refuseFault whole v = v
-refuseFault (fault i r) v = refused (Refusal.Record i)
-
 -- what load asks of a file, once settings and room are admitted
 unfoldable pub fileVerdict : Settings → List ℕ → Verdict Table
 fileVerdict s file =
-    refuse (not (eqb (length file % recordWidth) 0)) Refusal.Length
-    (refuseFault (firstFault (s .kind) 0 0 (recordsOf file))
-    (refuse (not (runsAllowed (s .kind) (s .gaps) (runs (recordsOf file)))) Refusal.Runs
-    (refuse (ltb (limit s (runs (recordsOf file))) (length (recordsOf file))) Refusal.Overfull
-    (accepted (recordsOf file)))))
+    checked
+    ((not (eqb (length file % recordWidth) 0), Refusal.Length)
+    ∷ (not (ruled (s .kind) (recordsOf file)), Refusal.Record (placeOr 0 (firstFault (s .kind) 0 0 (recordsOf file))))
+    ∷ (not (runsAllowed (s .kind) (s .gaps) (runs (recordsOf file))), Refusal.Runs)
+    ∷ (ltb (limit s (runs (recordsOf file))) (length (recordsOf file)), Refusal.Overfull)
+    ∷ []) (accepted (recordsOf file))
 
 abbrev pub loadVerdict : Settings → List ℕ → List ℤ → Verdict Table
 loadVerdict s file l = admitted s l (fileVerdict s file)

@@ -58,6 +58,11 @@ unfoldable pub isWhole : Fault → Bool
 isWhole whole = true
 isWhole (fault i r) = false
 
+-- the place of the first record that breaks a rule, n where none does
+unfoldable pub placeOr : ℕ → Fault → ℕ
+placeOr n whole = n
+placeOr n (fault i r) = i
+
 -- all records meet the rules
 unfoldable pub ruled : Kind → Table → Bool
 ruled k t = isWhole (firstFault k 0 0 t)

@@ -1,12 +1,11 @@
 -- Records and slots written one after the other, and what it means that settings, room and file are admitted.
 use Prim.Native.Nat.{ℕ, zero, suc, _+_, _*_, _-_, _%_, _≤_}
-use mathlib.Core.Path.{_≡_, refl, ap, _∙_}
-use mathlib.Core.Bool.{true, not, false≢true}
+use mathlib.Core.Path.{_≡_, ap, _∙_}
+use mathlib.Core.Bool.{true}
 use mathlib.Core.List.{List, [], _∷_, _++_, append-assoc, append-nil}
 use native.Mathlib.Omega.{arith}
 use native.Mathlib.Nat.{add-zero, zero-add}
 use borrow.Author.Tests.{eqb-true, eq-eqb, ltb-false, le-ltb, not-false}
-use lib.Dec.{eqb, ltb}
 use lib.IntN.{ℤ}
 use lib.ListN.{length, take, drop, length-append, length-drop}
 use lib.Seq.{drop-append-add, drop-drop, take-at}
@@ -18,10 +17,10 @@ use Rattle.rule.specs.declared.Settings.{Settings}
 use Rattle.rule.specs.declared.State.{State}
 use Rattle.rule.specs.declared.Written.{Written}
 use Rattle.rule.specs.Bytes.{recordAt, records, recordsOf, saved}
-use Rattle.rule.specs.Calls.{Verdict, refused, accepted, fileVerdict, kept, loaded, refuse, refuseFault, saveOutcome, stateOf, traced, writeVerdict, wrote}
+use Rattle.rule.specs.Calls.{Verdict, checked, refused, accepted, fileVerdict, kept, loaded, saveOutcome, stateOf, traced, writeVerdict, wrote}
 use Rattle.rule.specs.Numbers.{recordWidth, slotWidth, ticks}
 use Rattle.rule.specs.Room.{flat, laid, runsAllowed, slot, slots, sound, tableOf, zeros}
-use Rattle.rule.specs.Rules.{Fault, whole, fault, firstFault, isWhole}
+use Rattle.rule.specs.Rules.{ruled}
 use Rattle.rule.specs.Table.{Table, limit, needed, readings, runs}
 use Rattle.rule.proofs.Ruling.{Ruled, facts-ruled, ordered-readings, ruled-end, ruled-facts, ruled-ordered}
 use Rattle.record.specs.Files as files
@@ -31,7 +30,7 @@ use Rattle.slots.specs.Slots.{put}
 use Rattle.slots.proofs.Shifting.{drop-past}
 use Rattle.settings.proofs.Bounds.{limit-gaps}
 use Rattle.slots.proofs.Laying.{flat-append, length-flat, length-slots, slots-split}
-use Rattle.settings.proofs.Granting.{Granted, admits, past-admission, past-refusal}
+use Rattle.settings.proofs.Granting.{Granted, Unrefused, admits, past-admission, past-checks}
 use Rattle.saved.specs.declared.Inspected.{Inspected}
 use Rattle.saved.specs.Verdicts.{inspection}
 
@@ -56,7 +55,7 @@ saved-next l out i =
 
 -- what a save of a sound trace leaves, where the output is long enough
 pub save-writes : (s : State) (l : List ℤ) (out : List ℕ) → sound s l ≡ true → recordWidth * s .used ≤ length out → saveOutcome s l out ≡ (Written.Buckets (s .used), savedUpTo l out (s .used))
-unfolding writeVerdict refuse wrote
+unfolding writeVerdict checked wrote
 save-writes s l out h k = rw (h, le-ltb (length out) (recordWidth * s .used) k, length-saved (tableOf s l), length-slots l 0 (s .used))
 
 -- ---- loaded record by record
@@ -105,46 +104,30 @@ pub record Loads (s : Settings) (file : List ℕ) : Type 0 where
   pub allowed : runsAllowed (s .kind) (s .gaps) (runs (recordsOf file)) ≡ true
   pub few : length (recordsOf file) ≤ limit s (runs (recordsOf file))
 
-whole-ruled : (k : Kind) (t : Table) → firstFault k 0 0 t ≡ whole → Ruled k 0 t
-unfolding isWhole
-whole-ruled k t e = ruled-facts k 0 0 t (ap isWhole e)
-
-pub whole-readings : (k : Kind) (t : Table) → firstFault k 0 0 t ≡ whole → readings t ≤ ticks
+pub whole-readings : (k : Kind) (t : Table) → ruled k t ≡ true → readings t ≤ ticks
+unfolding ruled
 whole-readings k t e =
-    let r = whole-ruled k t e in
+    let r = ruled-facts k 0 0 t e in
     omega (arith, ordered-readings 0 t (ruled-ordered k 0 t r), ruled-end k 0 t (omega arith) r)
-
-is-whole : (f : Fault) → isWhole f ≡ true → f ≡ whole
-unfolding isWhole
-is-whole whole e = refl
-is-whole (fault i r) e = absurd (false≢true e)
-
-past-fault : (P : Verdict Table → Type 0) (f : Fault) (v : Verdict Table) → ((r : Refusal) → P (refused r)) → (f ≡ whole → P v) → P (refuseFault f v)
-unfolding refuseFault
-past-fault P whole v refuses p = p refl
-past-fault P (fault i r) v refuses p = refuses (Refusal.Record i)
 
 module _ (s : Settings) (file : List ℕ) where
   pub file-loads : Loads s file → fileVerdict s file ≡ accepted (recordsOf file)
-  unfolding fileVerdict refuse refuseFault
+  unfolding fileVerdict checked ruled
   file-loads h =
       rw (
         eq-eqb (length file % recordWidth) 0 (h .even),
-        is-whole (firstFault (s .kind) 0 0 (recordsOf file)) (facts-ruled (s .kind) 0 0 (recordsOf file) (h .rules)),
+        facts-ruled (s .kind) 0 0 (recordsOf file) (h .rules),
         h .allowed,
         le-ltb (limit s (runs (recordsOf file))) (length (recordsOf file)) (h .few),
       )
 
   -- what holds of every refusal, and of the records of a file that loads, holds of the file's verdict
   file-either : (P : Verdict Table → Type 0) → ((r : Refusal) → P (refused r)) → (Loads s file → P (accepted (recordsOf file))) → P (fileVerdict s file)
-  unfolding fileVerdict
+  unfolding fileVerdict ruled Unrefused
   file-either P refuses loads =
       let t = recordsOf file in
-      past-refusal P (not (eqb (length file % recordWidth) 0)) Refusal.Length _ (refuses Refusal.Length)
-      (λ a. past-fault P (firstFault (s .kind) 0 0 t) _ refuses
-      (λ b. past-refusal P (not (runsAllowed (s .kind) (s .gaps) (runs t))) Refusal.Runs _ (refuses Refusal.Runs)
-      (λ c. past-refusal P (ltb (limit s (runs t)) (length t)) Refusal.Overfull _ (refuses Refusal.Overfull)
-      (λ d. loads (record { even = eqb-true (length file % recordWidth) 0 (not-false _ a); rules = whole-ruled (s .kind) t b; allowed = not-false _ c; few = ltb-false (limit s (runs t)) (length t) d })))))
+      past-checks P refuses _ _ (λ p.
+      loads (record { even = eqb-true (length file % recordWidth) 0 (not-false _ (p .0)); rules = ruled-facts (s .kind) 0 0 t (not-false _ (p .1 .0)); allowed = not-false _ (p .1 .1 .0); few = ltb-false (limit s (runs t)) (length t) (p .1 .1 .1 .0) }))
 
 pub inspect-refuses : (v : Verdict Table) (r : Refusal) → inspection v ≡ Inspected.Refused r → v ≡ refused r
 unfolding inspection

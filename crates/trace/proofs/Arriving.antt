@@ -2,7 +2,7 @@
 use Prim.Native.Nat.{ℕ, suc, _+_, _-_, _<_, _≤_}
 use mathlib.Core.Path.{_≡_, refl, ap, _∙_}
 use mathlib.Core.Bool.{true, false, false≢true}
-use mathlib.Core.List.{List}
+use mathlib.Core.List.{List, [], _∷_}
 use native.Mathlib.Omega.{arith}
 use borrow.Author.Tests.{leb-true, le-leb, lt-leb}
 use lib.Dec.{leb, ltb}
@@ -11,7 +11,7 @@ use Rattle.rule.specs.declared.Kind.{Kind}
 use Rattle.rule.specs.declared.Kind.the-variants.{InOrder, Late}
 use Rattle.rule.specs.declared.Refusal.{Refusal}
 use Rattle.rule.specs.declared.State.{State}
-use Rattle.rule.specs.Calls.{accepted, isHeld, late, lateVerdict, refuse}
+use Rattle.rule.specs.Calls.{accepted, checked, isHeld, late, lateVerdict}
 use Rattle.rule.specs.Numbers.{most, ticks}
 use Rattle.rule.specs.Room.{gapsBounded, gapsGood, runsAllowed, sound, tableOf}
 use Rattle.rule.specs.Rules.{ruled}
@@ -76,8 +76,8 @@ module _ {s : State} {l : List ℤ} {tick : ℕ} (p : Passed s l tick) where
     pub late-free : holders tick (tableOf s l) ≡ 0
     late-free = held-counts 0 tick (tableOf s l) (sound-ordered s l facts) ∙ ap one free
 
-    pub late-left : (v : ℤ) → lateVerdict s l tick v ≡ refuse (ltb (s .settings .gaps) (runs (with s l tick v))) Refusal.Runs (accepted (accept (s .settings) (tableOf s l) tick v))
-    unfolding lateVerdict refuse
+    pub late-left : (v : ℤ) → lateVerdict s l tick v ≡ checked ((ltb (s .settings .gaps) (runs (with s l tick v)), Refusal.Runs) ∷ []) (accepted (accept (s .settings) (tableOf s l) tick v))
+    unfolding lateVerdict checked
     late-left v = rw (p .fit, p .kind, lt-leb ticks tick (p .small), free)
 
     pub late-ready : {at k : ℕ} {v : ℤ} → at ≡ position tick (tableOf s l) → k ≡ runs (with s l tick v) → k ≤ s .settings .gaps → Ready s l at k tick v

@@ -1,11 +1,10 @@
 -- An accepted open or reading leaves a sound trace.
 use Prim.Native.Nat.{ℕ, _<_}
 use mathlib.Core.Path.{_≡_, refl}
-use mathlib.Core.Bool.{true, false, not}
+use mathlib.Core.Bool.{true, false}
 use mathlib.Core.List.{List, []}
 use native.Mathlib.Omega.{arith}
 use borrow.Author.Tests.{leb-false, ltb-false, not-false}
-use lib.Dec.{leb, ltb}
 use lib.IntN.{ℤ}
 use mir.Syntax.{w32}
 use mir.Val.{SFits}
@@ -16,13 +15,13 @@ use Rattle.rule.specs.declared.Settings.{Settings}
 use Rattle.rule.specs.declared.State.{State}
 use Rattle.rule.specs.Calls.{Verdict, accepted, admitted, isHeld, kept, late, lateOutcome, lateVerdict, nextOutcome, nextVerdict, opened, refused, traced}
 use Rattle.rule.specs.Numbers.{ticks, word}
-use Rattle.rule.specs.Room.{runsAllowed, sound, tableOf}
+use Rattle.rule.specs.Room.{runsAllowed, tableOf}
 use Rattle.rule.specs.Table.{Table, accept, holding, nextTick, runs}
 use Rattle.rule.proofs.Fitting.{Fitted}
 use Rattle.rule.proofs.Ruling.{Ruled}
 use Rattle.room.specs.Steps.{position}
 use Rattle.room.proofs.Sounding.{facts-sound, laid-facts}
-use Rattle.settings.proofs.Granting.{Granted, past-admission, past-refusal}
+use Rattle.settings.proofs.Granting.{Granted, Unrefused, past-admission, past-checks}
 use Rattle.trace.specs.Left.{LeavesSound, LeftBy}
 use Rattle.room.specs.Steps.{Ready, with}
 use Rattle.trace.proofs.Arriving.{Passed, late-ready}
@@ -62,29 +61,22 @@ taken-leaves s l at k tick v r fits small = taken-sound s l at k tick v r fits s
 module _ (s : State) (l : List ℤ) (v : ℤ) (P : Verdict Table → Type 0) (no : (r : Refusal) → P (refused r)) where
   pub next-either : (late (s .settings .kind) ≡ false → Ready s l (s .used) 1 (nextTick (tableOf s l)) v → nextTick (tableOf s l) < word → P (accepted (accept (s .settings) (tableOf s l) (nextTick (tableOf s l)) v)))
       → P (nextVerdict s l v)
-  unfolding nextVerdict
+  unfolding nextVerdict Unrefused
   next-either takes =
-      past-refusal P (not (sound s l)) Refusal.Unsound _ (no Refusal.Unsound)
-      (λ a. past-refusal P (late (s .settings .kind)) Refusal.Kind _ (no Refusal.Kind)
-      (λ b. past-refusal P (leb ticks (nextTick (tableOf s l))) Refusal.Tick _ (no Refusal.Tick)
-      (λ c.
-      let inside : nextTick (tableOf s l) < ticks = leb-false ticks (nextTick (tableOf s l)) c in
-      takes b (next-ready s l v (not-false _ a) b inside) (omega arith))))
+      past-checks P no _ _ (λ p.
+      let inside : nextTick (tableOf s l) < ticks = leb-false ticks (nextTick (tableOf s l)) (p .1 .1 .0) in
+      takes (p .1 .0) (next-ready s l v (not-false _ (p .0)) (p .1 .0) inside) (omega arith))
 
   pub late-either : (tick : ℕ)
       → (Passed s l tick → isHeld (holding tick (tableOf s l)) ≡ false → Ready s l (position tick (tableOf s l)) (runs (with s l tick v)) tick v → tick < word → P (accepted (accept (s .settings) (tableOf s l) tick v)))
       → P (lateVerdict s l tick v)
-  unfolding lateVerdict
+  unfolding lateVerdict Unrefused
   late-either tick takes =
-      past-refusal P (not (sound s l)) Refusal.Unsound _ (no Refusal.Unsound)
-      (λ a. past-refusal P (not (late (s .settings .kind))) Refusal.Kind _ (no Refusal.Kind)
-      (λ b. past-refusal P (leb ticks tick) Refusal.Tick _ (no Refusal.Tick)
-      (λ c. past-refusal P (isHeld (holding tick (tableOf s l))) Refusal.Taken _ (no Refusal.Taken)
-      (λ free. past-refusal P (ltb (s .settings .gaps) (runs (with s l tick v))) Refusal.Runs _ (no Refusal.Runs)
-      (λ few.
-      let inside : tick < ticks = leb-false ticks tick c in
-      let p : Passed s l tick = record { fit = not-false _ a; kind = not-false _ b; small = inside } in
-      takes p free (late-ready p free refl refl (ltb-false (s .settings .gaps) (runs (with s l tick v)) few)) (omega arith))))))
+      past-checks P no _ _ (λ p.
+      let free = p .1 .1 .1 .0 in
+      let inside : tick < ticks = leb-false ticks tick (p .1 .1 .0) in
+      let fit : Passed s l tick = record { fit = not-false _ (p .0); kind = not-false _ (p .1 .0); small = inside } in
+      takes fit free (late-ready fit free refl refl (ltb-false (s .settings .gaps) (runs (with s l tick v)) (p .1 .1 .1 .1 .0))) (omega arith))
 
 pub next-leaves : (s : State) (l : List ℤ) (v : ℤ) → SFits w32 v → LeavesSound (nextOutcome s l v)
 next-leaves s l v fits = next-either s l v (Leaves (s .settings) l) (refused-leaves (s .settings) l) (λ _ r small. taken-leaves s l _ _ _ v r fits small)

@@ -3,7 +3,7 @@ use borrow.Author.Needs.{needs}
 use native.Mathlib.Omega.{arith}
 use mathlib.Core.Path.{_≡_, sym}
 use mathlib.Core.Bool.{true}
-use Rattle.rule.specs.Calls.{refuse}
+use Rattle.rule.specs.Calls.{checked}
 use Rattle.rule.specs.Room.{sound, tableOf}
 use Rattle.slots.proofs.Laying.{length-slots}
 use Rattle.slots.proofs.Reading.{filled}
@@ -21,11 +21,11 @@ sound-requires : tie.Need-sound-requires
 sound-requires c κs = search needs
 
 returns : tie.Need-returns
-unfolding partOutcome parted refuse
+unfolding partOutcome parted checked
 returns c = rw (flipped (c .before .sound .ensures) (c .if1 .taken))
 
 returns-2 : tie.Need-returns-2
-unfolding partOutcome parted refuse
+unfolding partOutcome parted checked
 returns-2 c =
     let a = c .before .before .before .before .before .args in
     rw (whole (c .before .before)) (sym (part-past (tableOf (a .trace .state) (a .room .now)) (a .index) (omega (arith, length-slots (a .room .now) 0 (a .trace .state .used), c .if2 .taken))))
@@ -36,7 +36,7 @@ read-requires c κs =
     filled (sound-filled (a .trace .state) (a .room .now) (sound-facts (a .trace .state) (a .room .now) (whole (c .before .before)))) (a .index) (c .if2 .left)
 
 returns-3 : tie.Need-returns-3
-unfolding partOutcome parted refuse
+unfolding partOutcome parted checked
 returns-3 c =
     let a = c .before .before .before .before .before .before .args in
     rw (c .read .ensures, whole (c .before .before .before)) (sym (part-slot (a .room .now) 0 (a .index) (a .index) (a .trace .state .used) (omega arith) (c .before .if2 .left)))

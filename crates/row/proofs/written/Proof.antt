@@ -3,7 +3,7 @@ use borrow.Author.Needs.{needs}
 use borrow.Author.Tests.{le-ltb, lt-ltb}
 use mathlib.Core.Path.{_≡_}
 use mathlib.Core.Bool.{true}
-use Rattle.rule.specs.Calls.{refuse, writeVerdict}
+use Rattle.rule.specs.Calls.{checked, writeVerdict}
 use Rattle.rule.specs.Room.{sound}
 use Rattle.slots.proofs.Laying.{length-slots}
 use Rattle.rule.proofs.Ruling.{flipped}
@@ -18,15 +18,15 @@ sound-requires : tie.Need-sound-requires
 sound-requires c κs = search needs
 
 returns : tie.Need-returns
-unfolding answer writeVerdict refuse
+unfolding answer writeVerdict checked
 returns c = rw (flipped (c .before .sound .ensures) (c .if1 .taken))
 
 returns-2 : tie.Need-returns-2
-unfolding answer writeVerdict refuse
+unfolding answer writeVerdict checked
 returns-2 c = rw (whole (c .before .before), lt-ltb _ _ (c .if2 .taken))
 
 returns-3 : tie.Need-returns-3
-unfolding answer writeVerdict refuse
+unfolding answer writeVerdict checked
 returns-3 c =
     let a = c .before .before .before .before .before .args in
     rw (whole (c .before .before), le-ltb _ _ (c .if2 .left), length-slots (a .room .now) 0 (a .trace .state .used))

@@ -3,15 +3,15 @@ use borrow.Author.Needs.{needs}
 use borrow.Author.Tests.{eq-eqb, le-ltb, lt-ltb, ne-eqb}
 use native.Mathlib.Omega.{arith}
 use Prim.Native.Nat.{_*_, _%_, _/_}
-use mathlib.Core.Path.{_≡_}
+use mathlib.Core.Path.{_≡_, ap}
 use mathlib.Core.Bool.{Bool, true, not}
 use lib.Dec.{eqb}
 use lib.ListN.{length}
 use Rattle.rule.specs.Bytes.{recordsOf}
-use Rattle.rule.specs.Calls.{refuse, refuseFault}
+use Rattle.rule.specs.Calls.{checked}
 use Rattle.rule.specs.Numbers.{recordWidth}
 use Rattle.rule.specs.Room.{runsAllowed}
-use Rattle.rule.specs.Rules.{whole, firstFault}
+use Rattle.rule.specs.Rules.{firstFault, isWhole, ruled}
 use Rattle.rule.specs.Table.{limit, runs}
 use Rattle.record.proofs.Faults.{file-refused, file-whole, length-file}
 use Rattle.settings.proofs.Bounds.{limit-gaps, needed-small}
@@ -26,10 +26,11 @@ use Rattle.saved.proofs.inspect.Tie as tie
 even-here : (c : tie.Else1) → eqb (length (c .before .before .args .file .now) % recordWidth) 0 ≡ true
 even-here c = eq-eqb _ 0 (c .if1 .left)
 
-whole-here : (c : tie.Else2) → let a = c .before .before .before .before .args in firstFault (a .s .kind) 0 0 (recordsOf (a .file .now)) ≡ whole
+whole-here : (c : tie.Else2) → let a = c .before .before .before .before .args in ruled (a .s .kind) (recordsOf (a .file .now)) ≡ true
+unfolding ruled isWhole
 whole-here c =
     let a = c .before .before .before .before .args in
-    file-whole (a .s .kind) (a .file .now) (omega (arith, c .before .first-fault .ensures))
+    ap isWhole (file-whole (a .s .kind) (a .file .now) (omega (arith, c .before .first-fault .ensures)))
 
 allowed-here : (c : tie.After-runs-allowed) {v : Bool} → not (c .runs-allowed .result) ≡ v
     → let a = c .before .before .before .before .before .before .args in runsAllowed (a .s .kind) (a .s .gaps) (runs (recordsOf (a .file .now))) ≡ not v
@@ -39,21 +40,18 @@ limit-here : (c : tie.After-limit) → let a = c .before .before .before .before
 limit-here c = rw (c .before .before .before .counts .ensures .0) at (c .limit .ensures)
 
 returns : tie.Need-returns
-unfolding fileVerdict inspection refuse
+unfolding fileVerdict inspection checked
 returns c = rw (ne-eqb _ 0 (c .if1 .taken))
 
 first-fault-requires : tie.Need-first-fault-requires
 first-fault-requires c κs = search needs
 
 returns-2 : tie.Need-returns-2
-unfolding fileVerdict inspection refuse
+unfolding fileVerdict inspection checked ruled
 returns-2 c =
     let a = c .before .before .before .before .args in
-    rw (
-      even-here (c .before .before),
-      file-refused (length (a .file .now) / recordWidth) (firstFault (a .s .kind) 0 0 (recordsOf (a .file .now))) _ (omega (arith, c .before .first-fault .ensures)),
-      ← c .before .first-fault .ensures,
-    )
+    let bad = file-refused (length (a .file .now) / recordWidth) (firstFault (a .s .kind) 0 0 (recordsOf (a .file .now))) (omega (arith, c .before .first-fault .ensures)) in
+    rw (even-here (c .before .before), bad .0, bad .1, ← c .before .first-fault .ensures)
 
 counts-requires : tie.Need-counts-requires
 counts-requires c κs = whole-readings _ _ (whole-here c)
@@ -62,7 +60,7 @@ runs-allowed-requires : tie.Need-runs-allowed-requires
 runs-allowed-requires c κs = search needs
 
 returns-3 : tie.Need-returns-3
-unfolding fileVerdict inspection refuse refuseFault
+unfolding fileVerdict inspection checked
 returns-3 c = rw (even-here (c .before .before .before .before .before), whole-here (c .before .before .before), allowed-here (c .before) (c .if3 .taken))
 
 limit-requires : tie.Need-limit-requires
@@ -73,7 +71,7 @@ limit-requires c κs =
     omega (arith, grows, needed-small s (start .pre .0) (start .pre .1))
 
 returns-4 : tie.Need-returns-4
-unfolding fileVerdict inspection refuse refuseFault
+unfolding fileVerdict inspection checked
 returns-4 c =
     let a = c .before .before .before .before .before .before .before .before .before .args in
     let t = recordsOf (a .file .now) in
@@ -85,7 +83,7 @@ returns-4 c =
     )
 
 returns-5 : tie.Need-returns-5
-unfolding fileVerdict inspection refuse refuseFault
+unfolding fileVerdict inspection checked
 returns-5 c =
     let a = c .before .before .before .before .before .before .before .before .before .args in
     let t = recordsOf (a .file .now) in

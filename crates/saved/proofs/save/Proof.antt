@@ -7,7 +7,7 @@ use mathlib.Core.Path.{_≡_, sym}
 use mathlib.Core.Bool.{true}
 use lib.ListN.{length}
 use Rattle.rule.specs.Numbers.{recordWidth}
-use Rattle.rule.specs.Calls.{refuse, writeVerdict, wrote}
+use Rattle.rule.specs.Calls.{checked, writeVerdict, wrote}
 use Rattle.rule.specs.Room.{sound}
 use Rattle.room.proofs.Sounding.{sound-facts, sound-filled, used-needed}
 use Rattle.settings.proofs.Bounds.{needed-small}
@@ -23,7 +23,7 @@ sound-requires : tie.Need-sound-requires
 sound-requires c κs = search needs
 
 returns : tie.Need-returns
-unfolding writeVerdict refuse wrote
+unfolding writeVerdict checked wrote
 returns c = rw (flipped (c .before .sound .ensures) (c .if1 .taken))
 
 mul-if2 : tie.Need-mul-if2
@@ -33,7 +33,7 @@ mul-if2 c =
     omega (arith, used-needed (a .trace .state) (a .room .now) f, needed-small (a .trace .state .settings) (f .steps-good) (f .gaps-good))
 
 returns-2 : tie.Need-returns-2
-unfolding writeVerdict refuse wrote
+unfolding writeVerdict checked wrote
 returns-2 c =
     let a = c .before .before .before .before .before .before .args in
     rw (whole (c .before .before), lt-ltb (length (a .out .now)) (recordWidth * a .trace .state .used) (c .if2 .taken))

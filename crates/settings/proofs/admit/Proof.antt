@@ -6,7 +6,7 @@ use Prim.Native.Nat.{_≤_, _*_}
 use mathlib.Core.Path.{_≡_}
 use mathlib.Core.Bool.{true}
 use lib.ListN.{length}
-use Rattle.rule.specs.Calls.{admitted, refuse}
+use Rattle.rule.specs.Calls.{admitted, checked}
 use Rattle.rule.specs.Numbers.{slotWidth}
 use Rattle.rule.specs.Room.{gapsGood, roomy, stepsGood}
 use Rattle.rule.specs.Table.{needed}
@@ -29,14 +29,14 @@ steps-good-requires : tie.Need-steps-good-requires
 steps-good-requires c κs = search needs
 
 returns : tie.Need-returns
-unfolding admitted admission refuse
+unfolding admitted admission checked
 returns c = rw (flipped (c .before .steps-good .ensures) (c .if1 .taken))
 
 gaps-good-requires : tie.Need-gaps-good-requires
 gaps-good-requires c κs = search needs
 
 returns-2 : tie.Need-returns-2
-unfolding admitted admission refuse
+unfolding admitted admission checked
 returns-2 c = rw (steps-here (c .before .before), flipped (c .before .gaps-good .ensures) (c .if2 .taken))
 
 needed-requires : tie.Need-needed-requires
@@ -46,14 +46,14 @@ mul-if3 : tie.Need-mul-if3
 mul-if3 c = omega (arith, small (c .before), c .needed .ensures)
 
 returns-3 : tie.Need-returns-3
-unfolding admitted admission refuse roomy
+unfolding admitted admission checked roomy
 returns-3 c =
     let two = c .before .before in
     let a = two .before .before .before .before .args in
     rw (steps-here (two .before .before), gaps-here two, lt-leb (slotWidth * needed (a .s)) (length (a .room .now)) (omega (arith, c .before .needed .ensures, c .if3 .taken)))
 
 returns-4 : tie.Need-returns-4
-unfolding admitted admission refuse roomy
+unfolding admitted admission checked roomy
 returns-4 c =
     let two = c .before .before in
     let a = two .before .before .before .before .args in

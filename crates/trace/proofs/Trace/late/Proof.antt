@@ -6,7 +6,7 @@ use Prim.Native.Nat.{_+_, _-_}
 use mathlib.Core.Path.{_≡_, sym, _∙_}
 use mathlib.Core.Bool.{true, false}
 use mir.Facts.{toZ-ofZ}
-use Rattle.rule.specs.Calls.{isHeld, late, lateVerdict, refuse, traced}
+use Rattle.rule.specs.Calls.{checked, isHeld, late, lateVerdict, traced}
 use Rattle.rule.specs.Numbers.{ticks}
 use Rattle.rule.specs.Room.{sound, tableOf}
 use Rattle.rule.specs.Table.{holding, runs}
@@ -57,7 +57,7 @@ same-length : tie.Need-same-length
 same-length c = search needs
 
 returns : tie.Need-returns
-unfolding lateVerdict refuse traced answer
+unfolding lateVerdict checked traced answer
 returns c = rw (flipped (c .before .sound .ensures) (c .if1 .taken))
 
 is-late-requires : tie.Need-is-late-requires
@@ -67,14 +67,14 @@ same-length-2 : tie.Need-same-length-2
 same-length-2 c = search needs
 
 returns-2 : tie.Need-returns-2
-unfolding lateVerdict refuse traced answer
+unfolding lateVerdict checked traced answer
 returns-2 c = rw (whole (c .before .before .before), flipped (c .before .is-late .ensures) (c .if2 .taken))
 
 same-length-3 : tie.Need-same-length-3
 same-length-3 c = search needs
 
 returns-3 : tie.Need-returns-3
-unfolding lateVerdict refuse traced answer
+unfolding lateVerdict checked traced answer
 returns-3 c = rw (whole (c .before .before .before .before), is-late (c .before), le-leb ticks _ (c .if3 .taken))
 
 find-requires : tie.Need-find-requires
@@ -87,7 +87,7 @@ same-length-4 : tie.Need-same-length-4
 same-length-4 c = search needs
 
 returns-4 : tie.Need-returns-4
-unfolding lateVerdict refuse traced answer
+unfolding lateVerdict checked traced answer
 returns-4 c =
     let at = c .before .before .before in
     let p = passed (at .before .before) in
@@ -106,7 +106,7 @@ same-length-5 : tie.Need-same-length-5
 same-length-5 c = search needs
 
 returns-5 : tie.Need-returns-5
-unfolding refuse traced answer
+unfolding checked traced answer
 returns-5 c =
     let j = c .before .before in
     let s = origin j .args .self .state in
@@ -123,7 +123,7 @@ same-length-6 : tie.Need-same-length-6
 same-length-6 c = search needs
 
 returns-6 : tie.Need-returns-6
-unfolding refuse traced answer
+unfolding checked traced answer
 returns-6 c =
     let j = c .before .before .before .before .before in
     let s = origin j .args .self .state in

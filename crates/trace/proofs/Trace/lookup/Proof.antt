@@ -5,7 +5,7 @@ use native.Mathlib.Omega.{arith}
 use mathlib.Core.Path.{_≡_}
 use mathlib.Core.Bool.{Bool, true, false, not}
 use lib.Dec.{leb}
-use Rattle.rule.specs.Calls.{found, foundOf, isHeld, lookupOutcome, refuse}
+use Rattle.rule.specs.Calls.{checked, found, foundOf, isHeld, lookupOutcome}
 use Rattle.rule.specs.Numbers.{ticks}
 use Rattle.rule.specs.Room.{sound, tableOf}
 use Rattle.rule.specs.Table.{holding}
@@ -40,11 +40,11 @@ sound-requires : tie.Need-sound-requires
 sound-requires c κs = search needs
 
 returns : tie.Need-returns
-unfolding lookupOutcome refuse foundOf
+unfolding lookupOutcome checked foundOf
 returns c = rw (flipped (c .before .sound .ensures) (c .if1 .taken))
 
 returns-2 : tie.Need-returns-2
-unfolding lookupOutcome refuse foundOf
+unfolding lookupOutcome checked foundOf
 returns-2 c = rw (whole (c .before), le-leb ticks (c .before .before .before .before .args .tick) (c .if2 .taken))
 
 find-requires : tie.Need-find-requires
@@ -56,7 +56,7 @@ held-requires : tie.Need-held-requires
 held-requires c κs = placed c
 
 returns-3 : tie.Need-returns-3
-unfolding lookupOutcome refuse foundOf found
+unfolding lookupOutcome checked foundOf found
 returns-3 c =
     let past = c .before .before .before in
     rw (whole (past .before), in-range past, not-held _ (told (c .before) (c .if3 .taken)))
@@ -73,7 +73,7 @@ found-in-requires : tie.Need-found-in-requires
 found-in-requires c κs = search needs
 
 returns-4 : tie.Need-returns-4
-unfolding lookupOutcome refuse foundOf
+unfolding lookupOutcome checked foundOf
 returns-4 c =
     let held = c .before .before in
     let past = held .before .before .before in

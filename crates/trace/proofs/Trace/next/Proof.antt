@@ -5,7 +5,7 @@ use native.Mathlib.Omega.{arith}
 use mathlib.Core.Path.{_≡_, sym, _∙_}
 use mathlib.Core.Bool.{true, false}
 use mir.Facts.{toZ-ofZ}
-use Rattle.rule.specs.Calls.{late, nextVerdict, refuse, traced}
+use Rattle.rule.specs.Calls.{checked, late, nextVerdict, traced}
 use Rattle.rule.specs.Numbers.{ticks}
 use Rattle.rule.specs.Room.{sound, tableOf}
 use Rattle.rule.specs.Table.{nextTick}
@@ -31,7 +31,7 @@ same-length : tie.Need-same-length
 same-length c = search needs
 
 returns : tie.Need-returns
-unfolding nextVerdict refuse traced answer
+unfolding nextVerdict checked traced answer
 returns c = rw (flipped (c .before .sound .ensures) (c .if1 .taken))
 
 is-late-requires : tie.Need-is-late-requires
@@ -41,7 +41,7 @@ same-length-2 : tie.Need-same-length-2
 same-length-2 c = search needs
 
 returns-2 : tie.Need-returns-2
-unfolding nextVerdict refuse traced answer
+unfolding nextVerdict checked traced answer
 returns-2 c = rw (whole (c .before .before .before), sym (c .before .is-late .ensures) ∙ c .if2 .taken)
 
 next-tick-requires : tie.Need-next-tick-requires
@@ -53,7 +53,7 @@ same-length-3 : tie.Need-same-length-3
 same-length-3 c = search needs
 
 returns-3 : tie.Need-returns-3
-unfolding nextVerdict refuse traced answer
+unfolding nextVerdict checked traced answer
 returns-3 c =
     let past = c .before .before .before in
     rw (whole (past .before .before .before), in-order past, ← c .before .next-tick .ensures, le-leb ticks (c .before .next-tick .result) (c .if3 .taken))
@@ -72,7 +72,7 @@ same-length-4 : tie.Need-same-length-4
 same-length-4 c = search needs
 
 returns-4 : tie.Need-returns-4
-unfolding nextVerdict refuse traced answer
+unfolding nextVerdict checked traced answer
 returns-4 c =
     let past = c .before .before .before .before .before .before in
     let a = past .before .before .before .before .before .before .before in

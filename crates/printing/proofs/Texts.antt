@@ -39,7 +39,7 @@ module _ (o : List ℕ) (at : ℕ) (s : List ℕ) where
 module _ {o p q : List ℕ} {at m r : ℕ} where
   pub then : {a b : List ℕ} → Printed o at a m p → Printed p m b r q → Printed o at (a ++ b) r q
   then {a} {b} x y =
-      record { next = rw (length-append a b) (omega arith); bytes = rw (y .bytes, x .bytes, x .next) (sets-append o at a b) }
+      record { next = rw (length-append a b) (omega arith); bytes = rw (y .bytes, x .bytes, x .next) (sets-append o at a b); inside = omega (arith, y .inside, ap length (x .bytes), length-sets o at a) }
 
 -- where there is room, the bytes before and behind the text stay
 pub placed : {o q : List ℕ} {at r : ℕ} {t : List ℕ} → at + length t ≤ length o → Printed o at t r q → q ≡ take at o ++ (t ++ drop (at + length t) o)

@@ -1,5 +1,5 @@
 -- The listing: numbers in decimal, fields one space apart, and a line feed at the end of each line.
-use Prim.Native.Nat.{ℕ, zero, suc, _+_, _/_, _%_}
+use Prim.Native.Nat.{ℕ, zero, suc, _+_, _/_, _%_, _≤_}
 use mathlib.Core.Path.{_≡_}
 use mathlib.Core.Bool.{cond}
 use mathlib.Core.List.{List, [], _∷_, _++_}
@@ -53,10 +53,11 @@ rows (b ∷ t) = row b ++ rows t
 unfoldable pub listing : Table → List ℕ
 listing t = rows t ++ total (readings t) (length t) (worst t)
 
--- a text is printed from a place on: the next place, and all the bytes afterwards, those of the text stored one after the other
+-- a text is printed from a place on: the next place, which is no further than the end, and all the bytes afterwards, those of the text stored one after the other
 pub record Printed (before : List ℕ) (at : ℕ) (text : List ℕ) (end : ℕ) (after : List ℕ) : Type 0 where
   pub next : end ≡ at + length text
   pub bytes : after ≡ sets before at text
+  pub inside : end ≤ length before
 
 -- room that is enough for a line of the listing
 abbrev pub lineRoom : ℕ

@@ -3,3 +3,4 @@ pub mod Lines
 pub mod Back
 pub mod ByHand
 pub mod OneOutcome
+pub mod Ranges

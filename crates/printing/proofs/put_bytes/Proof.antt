@@ -57,6 +57,7 @@ returns c =
     record {
       next = omega arith;
       bytes = sym (stores-done (loop .out) (start .args .at) (now (start .args .s)) (loop .i) (c .loop-test .left)) ∙ loop .inv .1 .1;
+      inside = omega arith;
     }
 
 pub put-bytes-spec : {M : Type 1} → statement M

@@ -1,29 +1,24 @@
--- `listing::feed::piece` is safe and ends: room and line keep their lengths.
+-- `listing::feed::piece` meets its contract: what is left to read leads to where the whole does.
 use borrow.Author.Needs.{needs}
 use native.Mathlib.Omega.{arith}
-use Prim.Native.Nat.{_≤_, _-_}
-use mathlib.Core.Path.{_≡_}
-use lib.ListN.{length}
+use Prim.Native.Nat.{_+_, _≤_, _-_}
+use mathlib.Core.Path.{_≡_, sym, _∙_, ap}
+use lib.ListN.{length, drop, drop-of-length-le}
+use Rattle.listing.proofs.Pieces.{fed-next}
+use Rattle.listing.specs.Feeding.{fed}
 use Rattle.listing.proofs.feed.piece.Statement.{statement}
 use Rattle.listing.proofs.feed.piece.Tie as tie
 
 abbrev Inv-loop : tie.InvT-loop
-Inv-loop room₀ line₀ bytes state₀ i₀ room line state i = (i ≤ length bytes) × ((length room ≡ length room₀) × (length line ≡ length line₀))
+Inv-loop room₀ line₀ bytes state₀ i₀ room line state i =
+    (i ≤ length bytes)
+    × ((length room ≡ length room₀) × ((length line ≡ length line₀) × (fed (state, (room, line)) (drop i bytes) ≡ fed (state₀, (room₀, line₀)) bytes)))
 
 abbrev μ-loop : tie.MeasureT-loop
 μ-loop room₀ line₀ bytes state₀ i₀ room line state i = length bytes - i
 
 loop-holds : tie.Need-loop-holds Inv-loop μ-loop
 loop-holds c = search needs
-
-same-length : tie.Need-same-length Inv-loop μ-loop
-same-length c = search needs
-
-same-length-2 : tie.Need-same-length-2 Inv-loop μ-loop
-same-length-2 c = search needs
-
-returns : tie.Need-returns Inv-loop μ-loop
-returns c = search needs
 
 shared-slice-read-byte : tie.Need-shared-slice-read-byte Inv-loop μ-loop
 shared-slice-read-byte c = search needs
@@ -32,22 +27,29 @@ byte-requires : tie.Need-byte-requires Inv-loop μ-loop
 byte-requires c κs = search needs
 
 add-i : tie.Need-add-i Inv-loop μ-loop
-add-i c = omega (arith, c .before .before .before .before .before .before .before .before .before .before .before .before .before .good)
+add-i c = search needs
 
 loop-less : tie.Need-loop-less Inv-loop μ-loop
 loop-less c = search needs
 
 loop-again : tie.Need-loop-again Inv-loop μ-loop
-loop-again c = search needs
+loop-again c =
+    let a = c .before .before .before .before .before .before .before .before .before .before .before .args in
+    let l = c .before .before .before .before .before .before .before .before .loop in
+    (omega arith, (omega arith, (omega arith, ap (λ x. fed x (drop (l .i + 1) (a .bytes .now))) (c .before .before .before .byte .ensures) ∙ sym (fed-next (l .state, (l .room, l .line)) (a .bytes .now) (l .i) (c .before .before .before .before .before .before .before .loop-test .taken)) ∙ l .inv .1 .1 .1)))
 
-same-length-3 : tie.Need-same-length-3 Inv-loop μ-loop
-same-length-3 c = search needs
+same-length : tie.Need-same-length Inv-loop μ-loop
+same-length c = search needs
 
-same-length-4 : tie.Need-same-length-4 Inv-loop μ-loop
-same-length-4 c = search needs
+same-length-2 : tie.Need-same-length-2 Inv-loop μ-loop
+same-length-2 c = search needs
 
-returns-2 : tie.Need-returns-2 Inv-loop μ-loop
-returns-2 c = search needs
+returns : tie.Need-returns Inv-loop μ-loop
+unfolding fed
+returns c =
+    let a = c .before .before .before .before .args in
+    let l = c .before .loop in
+    rw (drop-of-length-le (a .bytes .now) {i = l .i} (c .loop-test .left)) at (l .inv .1 .1 .1)
 
 pub piece-spec : {M : Type 1} → statement M
 piece-spec =
@@ -56,14 +58,11 @@ piece-spec =
     Inv-loop
     μ-loop
     loop-holds
-    same-length
-    same-length-2
-    returns
     shared-slice-read-byte
     byte-requires
     add-i
     loop-less
     loop-again
-    same-length-3
-    same-length-4
-    returns-2)
+    same-length
+    same-length-2
+    returns)

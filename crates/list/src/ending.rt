@@ -9,12 +9,12 @@ pub(crate) fn unread() {
 }
 
 // Says nothing of a whole listing.
-pub(crate) fn shown(refused: u32, written: bool) {
+pub(crate) fn shown(refused: bool, written: bool) {
     if !written {
         tell(b"listing: the output cannot be written\n");
         return;
     }
-    if refused != 0 {
+    if refused {
         tell(b"listing: the input is refused\n");
     }
 }

@@ -1,11 +1,10 @@
 // The listing program: a trace's lines from standard input, its buckets and their total to standard output, or the first refused line.
+use listing::feed;
+use listing::show;
 
 mod ending;
-mod feed;
-mod list;
 
-// The last line may lack its line feed; nothing after the last line feed is no line. A refused line ends the run, and nothing more is read. Where the
-// input cannot be read to its end, what was read of it is not shown.
+// A refused line ends the run, and nothing more is read. Where the input cannot be read to its end, what was read of it is not shown.
 fn main() {
     let mut room = [0i64; 3076];
     let mut line = [0u8; 64];
@@ -23,14 +22,16 @@ fn main() {
             turns = 0;
         } else {
             state = feed::piece(state, &mut room, &mut line, &piece[0..n]);
-            if state.refused == 0 {
-                turns -= 1;
-            } else {
+            if feed::ended(state) {
                 turns = 0;
+            } else {
+                turns -= 1;
             }
         }
     }
     state = feed::rest(state, &mut room, &line);
-    let written = list::show(state, &room);
-    ending::shown(state.refused, written);
+    let mut out = [0u8; 49216];
+    let n = show::show(state, &room, &mut out);
+    let written = io::write_all(libc::STDOUT_FILENO, &out[0..n]);
+    ending::shown(feed::ended(state), written);
 }

@@ -1,12 +1,14 @@
--- `listing::main` is safe and ends: the buffers keep their lengths, and the turns fall.
+-- `list::main` is safe and ends, and what it has read so far is an input of which the listing can be shown.
 use borrow.Author.Needs.{needs}
+use native.Mathlib.Omega.{arith}
 use mathlib.Core.Path.{_≡_}
 use lib.ListN.{length}
-use Rattle.listing.proofs.main.Statement.{statement}
-use Rattle.listing.proofs.main.Tie as tie
+use Rattle.listing.proofs.Listed.{Reached, reached-piece, reached-showable, reached-start}
+use Rattle.list.proofs.main.Statement.{statement}
+use Rattle.list.proofs.main.Tie as tie
 
 abbrev Inv-loop : tie.InvT-loop
-Inv-loop room₀ line₀ piece₀ state₀ turns₀ room line piece state turns = (length room ≡ 3076) × ((length line ≡ 64) × (length piece ≡ 65536))
+Inv-loop room₀ line₀ piece₀ state₀ turns₀ room line piece state turns = (length room ≡ 3076) × ((length line ≡ 64) × ((length piece ≡ 65536) × Reached state room line))
 
 abbrev μ-loop : tie.MeasureT-loop
 μ-loop room₀ line₀ piece₀ state₀ turns₀ room line piece state turns = turns
@@ -21,7 +23,7 @@ begin-requires : tie.Need-begin-requires Inv-loop μ-loop
 begin-requires c κs = search needs
 
 loop-holds : tie.Need-loop-holds Inv-loop μ-loop
-loop-holds c = search needs
+loop-holds c = (search needs, (search needs, (search needs, reached-start (c .before .begin .ensures))))
 
 slice-aggregate-read : tie.Need-slice-aggregate-read Inv-loop μ-loop
 slice-aggregate-read c = search needs
@@ -65,20 +67,23 @@ part-piece-end c = search needs
 piece-requires : tie.Need-piece-requires Inv-loop μ-loop
 piece-requires c κs = search needs
 
-sub-turns : tie.Need-sub-turns Inv-loop μ-loop
-sub-turns c = search needs
+ended-requires : tie.Need-ended-requires Inv-loop μ-loop
+ended-requires c κs = search needs
 
 loop-less-2 : tie.Need-loop-less-2 Inv-loop μ-loop
 loop-less-2 c = search needs
 
 loop-again-2 : tie.Need-loop-again-2 Inv-loop μ-loop
-loop-again-2 c = search needs
+loop-again-2 c = (search needs, (search needs, (search needs, reached-piece _ (c .before .before .before .before .before .before .before .before .before .before .before .before .before .before .before .before .before .loop .inv .1 .1 .1) (c .before .before .before .before .piece5 .ensures))))
+
+sub-turns : tie.Need-sub-turns Inv-loop μ-loop
+sub-turns c = search needs
 
 loop-less-3 : tie.Need-loop-less-3 Inv-loop μ-loop
 loop-less-3 c = search needs
 
 loop-again-3 : tie.Need-loop-again-3 Inv-loop μ-loop
-loop-again-3 c = search needs
+loop-again-3 c = (search needs, (search needs, (search needs, reached-piece _ (c .before .before .before .before .before .before .before .before .before .before .before .before .before .before .before .before .before .loop .inv .1 .1 .1) (c .before .before .before .before .piece5 .ensures))))
 
 slice-aggregate-rest : tie.Need-slice-aggregate-rest Inv-loop μ-loop
 slice-aggregate-rest c = search needs
@@ -92,8 +97,26 @@ rest-requires c κs = search needs
 slice-aggregate-show : tie.Need-slice-aggregate-show Inv-loop μ-loop
 slice-aggregate-show c = search needs
 
+slice-aggregate-show-2 : tie.Need-slice-aggregate-show-2 Inv-loop μ-loop
+slice-aggregate-show-2 c = search needs
+
 show-requires : tie.Need-show-requires Inv-loop μ-loop
-show-requires c κs = search needs
+show-requires c κs = reached-showable _ (c .before .before .before .before .before .before .before .loop .inv .1 .1 .1) (c .before .before .before .rest .ensures) (omega arith)
+
+sub-write-all : tie.Need-sub-write-all Inv-loop μ-loop
+sub-write-all c = search needs
+
+part-write-all-start : tie.Need-part-write-all-start Inv-loop μ-loop
+part-write-all-start c = search needs
+
+part-write-all-end : tie.Need-part-write-all-end Inv-loop μ-loop
+part-write-all-end c = omega (arith, c .before .before .show .ensures .inside)
+
+write-all-requires : tie.Need-write-all-requires Inv-loop μ-loop
+write-all-requires c κs = search needs
+
+ended-requires-2 : tie.Need-ended-requires-2 Inv-loop μ-loop
+ended-requires-2 c κs = search needs
 
 shown-requires : tie.Need-shown-requires Inv-loop μ-loop
 shown-requires c κs = search needs
@@ -125,15 +148,22 @@ main-spec =
     part-piece-start
     part-piece-end
     piece-requires
-    sub-turns
+    ended-requires
     loop-less-2
     loop-again-2
+    sub-turns
     loop-less-3
     loop-again-3
     slice-aggregate-rest
     slice-aggregate-rest-2
     rest-requires
     slice-aggregate-show
+    slice-aggregate-show-2
     show-requires
+    sub-write-all
+    part-write-all-start
+    part-write-all-end
+    write-all-requires
+    ended-requires-2
     shown-requires
     returns-2)

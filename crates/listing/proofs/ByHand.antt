@@ -1,0 +1,16 @@
+-- The inputs worked by hand: both sides compute to the same.
+use mathlib.Core.Path.{refl}
+use Rattle.rule.specs.Bucket.{distance, larger, lesser, middle}
+use Rattle.rule.specs.Calls.{admitted, gapsKept, isHeld, late, lateVerdict, nextVerdict, checked, traced}
+use Rattle.rule.specs.Room.{allOf, allZero, clauses, flat, gapsBounded, gapsGood, laid, ranged, restZero, roomy, runsAllowed, slot, slotRanged, slots, sound, stepsGood, within, zeros}
+use Rattle.rule.specs.Rules.{broken, equal, faultAt, firstFalse, firstFault, follows, isWhole, ruled, rules}
+use Rattle.rule.specs.Table.{accept, cheaper, cheapest, choice, holding, holds, insert, lastEnd, limitOver, merge, mergeAt, mergeOf, readings, runs, runsAfter, settle, settleIn, worst}
+use Rattle.printing.specs.Printing.{decimal, decimalIn, line, listing, refused, row, rows, total, whole}
+use Rattle.text.specs.Reading.{digits, digitsAfter, firstSpace, isDigit, lineOf, negated, number, same, signedField, spaced, unsignedField}
+use Rattle.trace.specs.Answers.{answer}
+use Rattle.listing.specs.Listing.{begins, begun, lines, obeyed, output, read, readAll, shown}
+use Rattle.listing.specs.ByHand.{ByHand, outputs}
+
+pub by-hand : ByHand
+unfolding distance larger lesser middle admitted gapsKept isHeld late lateVerdict nextVerdict checked traced allOf allZero clauses flat gapsBounded gapsGood laid ranged restZero roomy runsAllowed slot slotRanged slots sound stepsGood within zeros broken equal faultAt firstFalse firstFault follows isWhole ruled rules accept cheaper cheapest choice holding holds insert lastEnd limitOver merge mergeAt mergeOf readings runs runsAfter settle settleIn worst decimal decimalIn line listing refused row rows total whole digits digitsAfter firstSpace isDigit lineOf negated number same signedField spaced unsignedField answer begins begun lines obeyed output read readAll shown outputs
+by-hand = record { worked = refl }

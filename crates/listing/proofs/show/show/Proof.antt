@@ -1,0 +1,52 @@
+-- `listing::show::show` meets its contract: by the last answer, the listing or the refused line.
+use mathlib.Core.Path.{sym}
+use borrow.Author.Needs.{needs}
+use Rattle.listing.specs.Listing.{shown}
+use Rattle.listing.specs.Feeding.{Showable}
+use Rattle.listing.proofs.show.show.Statement.{statement}
+use Rattle.listing.proofs.show.show.Tie as tie
+
+enum-known-last : tie.Need-enum-known-last
+enum-known-last c = search needs
+
+listed-requires : tie.Need-listed-requires
+unfolding Showable
+listed-requires c κs = rw (c .before .before .last .given .1) at (c .before .before .before .before .before .pre)
+
+enum-known-last-2 : tie.Need-enum-known-last-2
+enum-known-last-2 c = search needs
+
+number-requires : tie.Need-number-requires
+number-requires c κs = search needs
+
+put-refused-requires : tie.Need-put-refused-requires
+unfolding Showable
+put-refused-requires c κs = rw (c .before .before .before .last2 .given .1) at (c .before .before .before .before .before .before .pre)
+
+same-length : tie.Need-same-length
+same-length c = search needs
+
+returns : tie.Need-returns
+unfolding shown
+returns c = rw (c .before .before .before .before .before .last .given .1) (c .before .before .listed .ensures)
+
+same-length-2 : tie.Need-same-length-2
+same-length-2 c = search needs
+
+returns-2 : tie.Need-returns-2
+unfolding shown
+returns-2 c = rw (c .before .before .before .before .before .before .last2 .given .1, sym (c .before .before .before .number .ensures)) (c .before .before .put-refused .ensures)
+
+pub show-spec : {M : Type 1} → statement M
+show-spec =
+    tie.close
+    (tie.spec
+    enum-known-last
+    listed-requires
+    enum-known-last-2
+    number-requires
+    put-refused-requires
+    same-length
+    returns
+    same-length-2
+    returns-2)

@@ -1,0 +1,39 @@
+-- What the program promises of any input, however it is cut.
+use Prim.Native.Nat.{ℕ}
+use mathlib.Core.Path.{_≡_}
+use mathlib.Core.List.{List, [], _∷_, _++_}
+use lib.IntN.{ℤ}
+use lib.ListN.{length, replicate}
+use Rattle.rule.specs.Room.{zeros}
+use Rattle.printing.specs.Printing.{lineRoom}
+use Rattle.text.specs.Reading.{lineMost}
+use Rattle.listing.specs.declared.Feeding.{Feeding}
+use Rattle.listing.specs.Listing.{output, roomSize, shown}
+use Rattle.listing.specs.Feeding.{Reader, Showable, fed, fresh, outputRoom, restFed}
+
+-- before the first byte, as the program lends room and line
+unfoldable pub start : Reader
+start = let o = fresh (zeros roomSize) in (o .0, (o .1, replicate lineMost 0))
+
+-- one piece read behind the other
+unfoldable pub fedAll : Reader → List (List ℕ) → Reader
+fedAll x [] = x
+fedAll x (p ∷ ps) = fedAll (fed x p) ps
+
+-- the input that the pieces are of
+unfoldable pub joined : List (List ℕ) → List ℕ
+joined [] = []
+joined (p ∷ ps) = p ++ joined ps
+
+-- the reader and the room at the input's end
+abbrev pub atEnd : Reader → Feeding × List ℤ
+atEnd x = restFed (x .0 .last) (x .0) (x .1 .0) (x .1 .1)
+
+abbrev pub written : Reader → List ℕ
+written x = let e = atEnd x in shown (e .0 .last) (e .0 .lines) (e .1)
+
+pub record Lists : Type 0 where
+  -- what is shown is the listing of the input
+  pub listed : (pieces : List (List ℕ)) → written (fedAll start pieces) ≡ output (joined pieces)
+  -- and it fits the output that the program lends
+  pub showable : (pieces : List (List ℕ)) (out : List ℕ) → length out ≡ outputRoom → let e = atEnd (fedAll start pieces) in Showable (e .0 .last) (e .1) out

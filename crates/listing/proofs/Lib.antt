@@ -4,5 +4,6 @@ pub mod Splitting
 pub mod Standings
 pub mod Showing
 pub mod Listed
+pub mod Passing
 pub mod ByHand
 pub mod OneOutcome

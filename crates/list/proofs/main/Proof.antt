@@ -1,17 +1,20 @@
--- `list::main` is safe and ends, and what it has read so far is an input of which the listing can be shown.
+-- `list::main` is safe and ends: what it has read so far is an input of which the listing can be shown, and with each piece that ends nothing it gets on.
 use borrow.Author.Needs.{needs}
 use native.Mathlib.Omega.{arith}
-use mathlib.Core.Path.{_≡_}
-use lib.ListN.{length}
+use Prim.Native.Nat.{suc, _-_}
+use mathlib.Core.Path.{_≡_, sym, _∙_}
+use mathlib.Core.Bool.{cond}
+use lib.ListN.{length, length-take}
 use Rattle.listing.proofs.Listed.{Reached, reached-piece, reached-showable, reached-start}
+use Rattle.listing.proofs.Passing.{mostPassed, passed, reached-passes}
 use Rattle.list.proofs.main.Statement.{statement}
 use Rattle.list.proofs.main.Tie as tie
 
 abbrev Inv-loop : tie.InvT-loop
-Inv-loop room₀ line₀ piece₀ state₀ turns₀ room line piece state turns = (length room ≡ 3076) × ((length line ≡ 64) × ((length piece ≡ 65536) × Reached state room line))
+Inv-loop room₀ line₀ piece₀ state₀ more₀ room line piece state more = (length room ≡ 3076) × ((length line ≡ 64) × ((length piece ≡ 65536) × Reached state room line))
 
 abbrev μ-loop : tie.MeasureT-loop
-μ-loop room₀ line₀ piece₀ state₀ turns₀ room line piece state turns = turns
+μ-loop room₀ line₀ piece₀ state₀ more₀ room line piece state more = cond more (suc (mostPassed - passed state)) 0
 
 large-buffer-requires : tie.Need-large-buffer-requires Inv-loop μ-loop
 large-buffer-requires c κs = search needs
@@ -44,7 +47,7 @@ count-requires : tie.Need-count-requires Inv-loop μ-loop
 count-requires c κs = search needs
 
 loop-less : tie.Need-loop-less Inv-loop μ-loop
-loop-less c = search needs
+loop-less c = rw (c .before .before .before .before .before .before .before .loop-test .taken) (omega arith)
 
 loop-again : tie.Need-loop-again Inv-loop μ-loop
 loop-again c = search needs
@@ -71,16 +74,15 @@ ended-requires : tie.Need-ended-requires Inv-loop μ-loop
 ended-requires c κs = search needs
 
 loop-less-2 : tie.Need-loop-less-2 Inv-loop μ-loop
-loop-less-2 c = search needs
+loop-less-2 c = rw (c .before .before .before .before .before .before .before .before .before .before .before .before .before .before .before .before .loop-test .taken) (omega arith)
 
 loop-again-2 : tie.Need-loop-again-2 Inv-loop μ-loop
 loop-again-2 c = (search needs, (search needs, (search needs, reached-piece _ (c .before .before .before .before .before .before .before .before .before .before .before .before .before .before .before .before .before .loop .inv .1 .1 .1) (c .before .before .before .before .piece5 .ensures))))
 
-sub-turns : tie.Need-sub-turns Inv-loop μ-loop
-sub-turns c = search needs
-
 loop-less-3 : tie.Need-loop-less-3 Inv-loop μ-loop
-loop-less-3 c = search needs
+loop-less-3 c =
+    let p = reached-passes _ (c .before .before .before .before .before .before .before .before .before .before .before .before .before .before .before .before .before .loop .inv .1 .1 .1) (c .before .before .before .before .piece5 .ensures) (simp length-take (omega (arith, c .before .before .before .before .before .before .before .before .before .if2 .left))) (sym (c .before .ended .ensures) ∙ c .if3 .left) in
+    rw (c .before .before .before .before .before .before .before .before .before .before .before .before .before .before .before .before .loop-test .taken) (omega (arith, p .0, p .1))
 
 loop-again-3 : tie.Need-loop-again-3 Inv-loop μ-loop
 loop-again-3 c = (search needs, (search needs, (search needs, reached-piece _ (c .before .before .before .before .before .before .before .before .before .before .before .before .before .before .before .before .before .loop .inv .1 .1 .1) (c .before .before .before .before .piece5 .ensures))))
@@ -151,7 +153,6 @@ main-spec =
     ended-requires
     loop-less-2
     loop-again-2
-    sub-turns
     loop-less-3
     loop-again-3
     slice-aggregate-rest

@@ -187,10 +187,11 @@ static void obey(const uint8_t *command)
     uint8_t choice = command[1];
     uint32_t first = word(command + 4), second = word(command + 8), third = word(command + 12);
     uint64_t both = second | (uint64_t)third << 32;
+    ndz_settings settings = {.kind = choice, .steps = first, .gaps = second};
     switch (command[0]) {
     case OPEN:
         lent = third;
-        answered(OPEN, ndz_open(choice, first, second, room, lent_numbers()));
+        answered(OPEN, ndz_open(settings, room, lent_numbers()));
         break;
     case NEXT:
         read_on(NEXT, ndz_next(state, room, lent_numbers(), (int32_t)first));
@@ -219,7 +220,7 @@ static void obey(const uint8_t *command)
         end();
         break;
     case LOAD:
-        answered(LOAD, ndz_load(choice, first, second, file, least(third, FILE_BYTES), room, lent_numbers()));
+        answered(LOAD, ndz_load(settings, file, least(third, FILE_BYTES), room, lent_numbers()));
         break;
     case POKE_BYTES:
         poke_bytes(choice, first, both);

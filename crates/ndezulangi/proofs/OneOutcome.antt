@@ -10,7 +10,7 @@ use Rattle.ndezulangi.proofs.ndz_save as save
 use Rattle.ndezulangi.proofs.ndz_load as load
 
 pub open-one : OneOutcome opens.ended (λ M. opens.clauses)
-open-one M 𝓤 H A mem run κs a g r r′ l l′ = by-pair 𝓤 (λ x. (l .0, (l .1 .0, (l .1 .1 .0, (x, l .1 .1 .1 .1)))))
+open-one M 𝓤 H A mem run κs a g r r′ l l′ = by-pair 𝓤 (λ x. (l .0, (x, l .1 .1)))
 
 pub next-one : OneOutcome next.ended (λ M. next.clauses)
 next-one M 𝓤 H A mem run κs a g r r′ l l′ = by-pair 𝓤 (λ x. (l .0, (x, l .1 .1)))
@@ -28,4 +28,4 @@ pub save-one : OneOutcome save.ended (λ M. save.clauses)
 save-one M 𝓤 H A mem run κs a g r r′ l l′ = by-pair 𝓤 (λ x. (l .0, (l .1 .0, (x, l .1 .1 .1))))
 
 pub load-one : OneOutcome load.ended (λ M. load.clauses)
-load-one M 𝓤 H A mem run κs a g r r′ l l′ = by-pair 𝓤 (λ x. (l .0, (l .1 .0, (l .1 .1 .0, (l .1 .1 .1 .0, (x, l .1 .1 .1 .1 .1))))))
+load-one M 𝓤 H A mem run κs a g r r′ l l′ = by-pair 𝓤 (λ x. (l .0, (l .1 .0, (x, l .1 .1 .1))))

@@ -13,6 +13,7 @@ use Rattle.rule.specs.Calls.{lateOutcome, loaded, lookupOutcome, nextOutcome, o
 use Rattle.row.specs.Parts.{numbersOutcome}
 use Rattle.trace.specs.Answers.{answered}
 use Rattle.trace.specs.declared.Answer.{Answer}
+use Rattle.ndezulangi.specs.declared.Named.{Named}
 use Rattle.ndezulangi.specs.declared.Fields.{Fields}
 use Rattle.ndezulangi.specs.declared.Reply.{Reply}
 use Rattle.ndezulangi.specs.declared.Shown.{Shown}
@@ -27,11 +28,11 @@ unfoldable pub numberOf : Kind → ℕ
 numberOf InOrder = 0
 numberOf Late = 1
 
-abbrev pub settingsOf : ℕ → ℕ → ℕ → Settings
-settingsOf kind steps gaps = record { kind = kindOf kind; steps = steps; gaps = gaps }
+abbrev pub settingsOf : Named → Settings
+settingsOf named = record { kind = kindOf (named .kind); steps = named .steps; gaps = named .gaps }
 
 abbrev pub stateFrom : Fields → State
-stateFrom f = record { settings = settingsOf (f .kind) (f .steps) (f .gaps); used = f .used; runs = f .runs; readings = f .readings }
+stateFrom f = record { settings = settingsOf (record { kind = f .kind; steps = f .steps; gaps = f .gaps }); used = f .used; runs = f .runs; readings = f .readings }
 
 abbrev pub fieldsOf : State → Fields
 fieldsOf s = record { kind = numberOf (s .settings .kind); steps = s .settings .steps; gaps = s .settings .gaps; used = s .used; runs = s .runs; readings = s .readings }
@@ -65,8 +66,8 @@ told w = (telling (w .0), w .1)
 
 -- ---- what each exported function answers, with the room or the output as it leaves it
 
-abbrev pub openReply : ℕ → ℕ → ℕ → List ℤ → Reply × List ℤ
-openReply kind steps gaps room = replied none (answered (opened (settingsOf kind steps gaps) room))
+abbrev pub openReply : Named → List ℤ → Reply × List ℤ
+openReply named room = replied none (answered (opened (settingsOf named) room))
 
 abbrev pub nextReply : Fields → List ℤ → ℤ → Reply × List ℤ
 nextReply state room value = replied state (answered (nextOutcome (stateFrom state) room value))
@@ -83,5 +84,5 @@ rowReply state room out = told (numbersOutcome (stateFrom state) room out)
 abbrev pub saveReply : Fields → List ℤ → List ℕ → Counted × List ℕ
 saveReply state room out = told (saveOutcome (stateFrom state) room out)
 
-abbrev pub loadReply : ℕ → ℕ → ℕ → List ℕ → List ℤ → Reply × List ℤ
-loadReply kind steps gaps file room = replied none (answered (loaded (settingsOf kind steps gaps) file room))
+abbrev pub loadReply : Named → List ℕ → List ℤ → Reply × List ℤ
+loadReply named file room = replied none (answered (loaded (settingsOf named) file room))

@@ -10,6 +10,14 @@ use rule::Written;
 use trace::Answer;
 use trace::Trace;
 
+// What a trace is opened or loaded with: its kind is 0 in order and any other number late; B and K.
+#[repr(C)]
+pub struct Named {
+    pub kind: usize,
+    pub steps: usize,
+    pub gaps: usize,
+}
+
 // A state: its kind is 0 in order and any other number late; B, K, slots in use, runs, readings.
 #[repr(C)]
 pub struct Fields {
@@ -67,17 +75,25 @@ fn number_of(kind: Kind) -> usize
     }
 }
 
-fn settings_of(kind: usize, steps: usize, gaps: usize) -> Settings
-    ensures { λ r. ⌜ r ≡ settingsOf kind steps gaps ⌝ }
+fn settings_of(named: Named) -> Settings
+    ensures { λ r. ⌜ r ≡ settingsOf named ⌝ }
 {
-    let kind = kind_of(kind);
-    Settings { kind, steps, gaps }
+    let kind = kind_of(named.kind);
+    Settings {
+        kind,
+        steps: named.steps,
+        gaps: named.gaps,
+    }
 }
 
 fn trace_of(f: Fields) -> Trace
     ensures { λ r. ⌜ r .state ≡ stateFrom f ⌝ }
 {
-    let settings = settings_of(f.kind, f.steps, f.gaps);
+    let settings = settings_of(Named {
+        kind: f.kind,
+        steps: f.steps,
+        gaps: f.gaps,
+    });
     Trace {
         state: State {
             settings,
@@ -180,10 +196,10 @@ fn telling(w: Written) -> Counted
 }
 
 #[no_mangle]
-pub extern "C" fn ndz_open(kind: usize, steps: usize, gaps: usize, room: &mut [i64]) -> Reply
-    ensures { λ r. ⌜ (r, now (room .exit)) ≡ openReply kind steps gaps (now (room .entry)) ⌝ }
+pub extern "C" fn ndz_open(named: Named, room: &mut [i64]) -> Reply
+    ensures { λ r. ⌜ (r, now (room .exit)) ≡ openReply named (now (room .entry)) ⌝ }
 {
-    let settings = settings_of(kind, steps, gaps);
+    let settings = settings_of(named);
     replying(none(), Trace::open(settings, &mut *room))
 }
 
@@ -229,15 +245,9 @@ pub extern "C" fn ndz_save(state: Fields, room: &[i64], out: &mut [u8]) -> Count
 }
 
 #[no_mangle]
-pub extern "C" fn ndz_load(
-    kind: usize,
-    steps: usize,
-    gaps: usize,
-    file: &[u8],
-    room: &mut [i64],
-) -> Reply
-    ensures { λ r. ⌜ (r, now (room .exit)) ≡ loadReply kind steps gaps (now (file .entry)) (now (room .entry)) ⌝ }
+pub extern "C" fn ndz_load(named: Named, file: &[u8], room: &mut [i64]) -> Reply
+    ensures { λ r. ⌜ (r, now (room .exit)) ≡ loadReply named (now (file .entry)) (now (room .entry)) ⌝ }
 {
-    let named = settings_of(kind, steps, gaps);
-    replying(none(), saved::load(named, file, &mut *room))
+    let wanted = settings_of(named);
+    replying(none(), saved::load(wanted, file, &mut *room))
 }

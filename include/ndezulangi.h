@@ -128,6 +128,13 @@ typedef struct {
     uint64_t buckets;
 } ndz_written;
 
+/* The worst error of a trace; 0 where refused. */
+typedef struct {
+    uint32_t refusal;
+    uint64_t place;
+    uint32_t error;
+} ndz_worst_error;
+
 /* An empty trace; the needed slots become zeros. In order the given K is ignored and kept as 0.
  * Refuses: NDZ_STEPS, NDZ_GAPS, NDZ_ROOM. */
 ndz_answer ndz_open(ndz_settings settings, int64_t *room, size_t numbers);
@@ -144,10 +151,18 @@ ndz_answer ndz_late(ndz_state state, int64_t *room, size_t numbers, uint32_t tic
  * Refuses: NDZ_UNSOUND, NDZ_TICK, NDZ_ABSENT. */
 ndz_found ndz_lookup(ndz_state state, const int64_t *room, size_t numbers, uint32_t tick);
 
+/* The greatest error of a bucket, 0 for an empty trace. Writes nothing.
+ * Refuses: NDZ_UNSOUND. */
+ndz_worst_error ndz_worst(ndz_state state, const int64_t *room, size_t numbers);
+
 /* The chart row: the buckets in tick order, four numbers each (start, count, least, largest), into the first places of `out`;
  * what lies behind them stays.
  * Refuses: NDZ_UNSOUND, NDZ_SHORT (`out` has fewer than four numbers for each bucket). */
 ndz_written ndz_row(ndz_state state, const int64_t *room, size_t numbers, int64_t *out, size_t out_numbers);
+
+/* Level and error of a bucket. */
+int32_t ndz_level(ndz_bucket bucket);
+uint32_t ndz_error(ndz_bucket bucket);
 
 /* The saved form: 16 bytes a bucket, in tick order; each field 32 bits, low byte first. Bytes behind them stay.
  * Refuses: NDZ_UNSOUND, NDZ_SHORT (`out` has fewer than 16 bytes for each bucket). */

@@ -13,11 +13,14 @@ use Rattle.rule.specs.Calls.{lateOutcome, loaded, lookupOutcome, nextOutcome, o
 use Rattle.row.specs.Parts.{numbersOutcome}
 use Rattle.trace.specs.Answers.{answered}
 use Rattle.trace.specs.declared.Answer.{Answer}
+use Rattle.worst.specs.declared.Measured.{Measured}
+use Rattle.worst.specs.Outcome.{worstOutcome}
 use Rattle.ndezulangi.specs.declared.Named.{Named}
 use Rattle.ndezulangi.specs.declared.Fields.{Fields}
 use Rattle.ndezulangi.specs.declared.Reply.{Reply}
 use Rattle.ndezulangi.specs.declared.Shown.{Shown}
 use Rattle.ndezulangi.specs.declared.Counted.{Counted}
+use Rattle.ndezulangi.specs.declared.WorstError.{WorstError}
 
 -- 0 is in order, any other number late
 unfoldable pub kindOf : ℕ → Kind
@@ -64,6 +67,11 @@ telling (Written.Refused r) = record { refusal = number r; place = place r; buck
 abbrev pub told : {A : Type 0} → Written × List A → Counted × List A
 told w = (telling (w .0), w .1)
 
+-- refused: no error
+unfoldable pub erring : Measured → WorstError
+erring (Measured.Error e) = record { refusal = 0; place = 0; error = e }
+erring (Measured.Refused r) = record { refusal = number r; place = place r; error = 0 }
+
 -- ---- what each exported function answers, with the room or the output as it leaves it
 
 abbrev pub openReply : Named → List ℤ → Reply × List ℤ
@@ -77,6 +85,9 @@ lateReply state room tick value = replied state (answered (lateOutcome (stateFro
 
 abbrev pub lookupReply : Fields → List ℤ → ℕ → Shown
 lookupReply state room tick = showing (lookupOutcome (stateFrom state) room tick)
+
+abbrev pub worstReply : Fields → List ℤ → WorstError
+worstReply state room = erring (worstOutcome (stateFrom state) room)
 
 abbrev pub rowReply : Fields → List ℤ → List ℤ → Counted × List ℤ
 rowReply state room out = told (numbersOutcome (stateFrom state) room out)

@@ -31,17 +31,19 @@ use Rattle.room.proofs.Placing.{held-counts}
 use Rattle.room.proofs.Sounding.{sound-facts, sound-ordered}
 use Rattle.row.specs.Parts.{numbersOutcome}
 use Rattle.trace.specs.Answers.{answer, answered}
+use Rattle.worst.specs.declared.Measured.{Measured}
+use Rattle.worst.specs.Outcome.{measured, worstOutcome}
 use Rattle.saved.proofs.RoundTrips.{loaded-saved, saved-loaded}
 use Rattle.demands.specs.History.{Reading, arrived}
 use Rattle.ndezulangi.specs.declared.Counted.{Counted}
 use Rattle.ndezulangi.specs.declared.Fields.{Fields}
 use Rattle.ndezulangi.specs.declared.Named.{Named}
 use Rattle.ndezulangi.specs.declared.Reply.{Reply}
-use Rattle.ndezulangi.specs.Plain.{fieldsOf, kindOf, lookupReply, none, numberOf, replied, replying, settingsOf, showing, stateFrom, telling, told}
+use Rattle.ndezulangi.specs.Plain.{erring, fieldsOf, kindOf, lookupReply, none, numberOf, replied, replying, settingsOf, showing, stateFrom, telling, told, worstReply}
 use Rattle.ndezulangi.proofs.SameState.{same-state}
-use Rattle.promises.specs.Answered.{Answered, Row, fileRows, firstOf, lateRows, lookupRows, nextRows, openRows, said, saidFound, saidWritten, writeRows}
+use Rattle.promises.specs.Answered.{Answered, Row, fileRows, firstOf, lateRows, lookupRows, nextRows, openRows, said, saidFound, saidMeasured, saidWritten, worstRows, writeRows}
 use Rattle.promises.specs.Reached.{Reached}
-use Rattle.promises.specs.Exported.{Called, Counts, ExportedDemand1, ExportedDemand2, Promised, Replies, Shows, firstDue, wroteAll}
+use Rattle.promises.specs.Exported.{Called, Counts, Errs, ExportedDemand1, ExportedDemand2, Promised, Replies, Shows, firstDue, wroteAll}
 use Rattle.promises.proofs.Answering.{demand1, needed-is}
 use Rattle.promises.proofs.Keeping.{held-small, keeps, kept-same, kept-twice, loaded-kept}
 use Rattle.promises.proofs.Outcomes.{next-in-order}
@@ -68,6 +70,11 @@ unfolding saidFound showing
 shows-found (Found.Refused r) rows e = record { exactly = ap saying e ∙ sym (due rows); zeros = λ h. refl }
 shows-found (Found.Level level error least largest) rows e = record { exactly = ap saying e ∙ sym (due rows); zeros = λ h. absurd (h refl) }
 
+errs : (m : Measured) (rows : List Row) → saidMeasured m ≡ firstOf rows → Errs rows (erring m)
+unfolding saidMeasured erring
+errs (Measured.Refused r) rows e = record { exactly = ap saying e ∙ sym (due rows); none-told = λ h. refl }
+errs (Measured.Error n) rows e = record { exactly = ap saying e ∙ sym (due rows); none-told = λ h. absurd (h refl) }
+
 counts : {A : Type 0} (w : Written) (rows : List Row) (before after : List A) → Answered (saidWritten w) rows before after → Counts rows before after (telling w)
 unfolding saidWritten telling
 counts (Written.Refused r) rows before after a = record { exactly = ap saying (a .exactly) ∙ sym (due rows); untouched = λ h. (refl, a .untouched (number r, place r) refl) }
@@ -79,12 +86,13 @@ eight back (refused r) e = ap (λ (n : ℕ). some (n, place r)) e
 eight back (accepted s) e = absurd (omega arith)
 
 pub exported-demand1 : ExportedDemand1
-unfolding sound clauses allOf stepsGood nextVerdict lateVerdict lookupOutcome foundOf writeVerdict checked traced wrote answer replying showing telling kindOf
+unfolding sound clauses allOf stepsGood nextVerdict lateVerdict lookupOutcome foundOf writeVerdict worstOutcome measured checked traced wrote answer replying showing telling erring kindOf
 exported-demand1 = record {
   opens = λ named l. let g = settingsOf named in replies none (opened g l .0) (openRows g l) l (opened g l .1) (demand1 .opens g l);
   nexts = λ f l v. let s = stateFrom f in replies f (nextOutcome s l v .0) (nextRows s l) l (nextOutcome s l v .1) (demand1 .nexts s l v);
   lates = λ f l tick v. let s = stateFrom f in replies f (lateOutcome s l tick v .0) (lateRows s l tick v) l (lateOutcome s l tick v .1) (demand1 .lates s l tick v);
   lookups = λ f l tick. let s = stateFrom f in shows-found (lookupOutcome s l tick) (lookupRows s l tick) (demand1 .lookups s l tick);
+  worsts = λ f l. let s = stateFrom f in errs (worstOutcome s l) (worstRows s l) (demand1 .worsts s l);
   rows = λ f l out. let s = stateFrom f in counts (numbersOutcome s l out .0) (writeRows s l (length out) (slotWidth * f .used)) out (numbersOutcome s l out .1) (demand1 .numbers s l out);
   saves = λ f l out. let s = stateFrom f in counts (saveOutcome s l out .0) (writeRows s l (length out) (recordWidth * f .used)) out (saveOutcome s l out .1) (demand1 .saves s l out);
   loads = λ named file l. let g = settingsOf named in replies none (loaded g file l .0) (openRows g l ++ fileRows g file) l (loaded g file l .1) (demand1 .loads g file l);
@@ -174,7 +182,7 @@ module _ {named : Named} where
       let a = accepts none (loaded (settingsOf other) (take (recordWidth * q .buckets) written) room) e y in
       (Reached.loads out room (settingsOf other) same (reaches c .0) (writes (saveOutcome (stateFrom f) l out) saves z) (a .outcome), a .plain)
 
--- ---- what ndz_lookup shows of it
+-- ---- what ndz_lookup and ndz_worst show of it
 
 -- the error shown is at most the worst
 found-error : (tick : ℕ) (t : Table) → showing (found (holding tick t)) .error ≤ worst t
@@ -194,6 +202,10 @@ looked : (f : Fields) (l : List ℤ) (tick : ℕ) (here : Bool) → sound (state
 unfolding firstDue
 looked f l tick true fit h small = ap (λ (x : ℕ × ℕ). x .0) (exported-demand1 .lookups f l tick .exactly) ∙ rw (fit, lt-leb ticks tick (small refl), h)
 looked f l tick false fit h small = ap (λ (x : ℕ × ℕ). x .0) (exported-demand1 .lookups f l tick .exactly) ∙ by-test (leb ticks tick) (λ g. rw (fit, g)) (λ g. rw (fit, g, h))
+
+worst-of : (f : Fields) (l : List ℤ) → sound (stateFrom f) l ≡ true → worstReply f l ≡ record { refusal = 0; place = 0; error = worst (tableOf (stateFrom f) l) }
+unfolding worstOutcome measured checked erring
+worst-of f l fit = rw fit
 
 -- ---- what ndz_row and ndz_save write of it
 
@@ -242,6 +254,8 @@ promises {named} {rs} {f} {l} c =
             near = subst (λ (x : Found). distance (r .value) (showing x .level) ≤ E) (sym (seen .answer)) (seen .near);
             error = omega (arith, shown-error f l (r .tick), p .1);
           };
+      worst-told = worst-of f l (k .fit) ∙ ap (λ (x : Table). record { refusal = 0; place = 0; error = worst x }) (k .buckets);
+      worst-within = λ curve E few near. subst (λ (x : Table). worst x ≤ E) (k .buckets) (k .picture curve E few near .1);
       lookups = λ tick b m h. ap showing (k .lookups tick b (subst (List·Memᴰ b) (sym (k .buckets)) m) h);
       covers = λ tick.
           looked f l tick (arrived tick rs) (k .fit)

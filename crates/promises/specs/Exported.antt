@@ -14,7 +14,7 @@ use Rattle.rule.specs.Bytes.{saved}
 use Rattle.rule.specs.Calls.{kept, late}
 use Rattle.rule.specs.Files.{FirstBroken}
 use Rattle.rule.specs.Room.{flat, signed, sound}
-use Rattle.rule.specs.Table.{Table, holds}
+use Rattle.rule.specs.Table.{Table, holds, worst}
 use Rattle.saved.specs.Bytes.{AllBytes}
 use Rattle.demands.specs.Curve as curve
 use Rattle.demands.specs.Curve.{Curve}
@@ -25,8 +25,9 @@ use Rattle.ndezulangi.specs.declared.Fields.{Fields}
 use Rattle.ndezulangi.specs.declared.Named.{Named}
 use Rattle.ndezulangi.specs.declared.Reply.{Reply}
 use Rattle.ndezulangi.specs.declared.Shown.{Shown}
-use Rattle.ndezulangi.specs.Plain.{fieldsOf, kindOf, lateReply, loadReply, lookupReply, nextReply, none, numberOf, openReply, rowReply, saveReply, settingsOf, stateFrom}
-use Rattle.promises.specs.Answered.{Row, fileRows, lateRows, lookupRows, mostSteps, nextRows, openRows, slotsNeeded, writeRows}
+use Rattle.ndezulangi.specs.declared.WorstError.{WorstError}
+use Rattle.ndezulangi.specs.Plain.{fieldsOf, kindOf, lateReply, loadReply, lookupReply, nextReply, none, numberOf, openReply, rowReply, saveReply, settingsOf, stateFrom, worstReply}
+use Rattle.promises.specs.Answered.{Row, fileRows, lateRows, lookupRows, mostSteps, nextRows, openRows, slotsNeeded, worstRows, writeRows}
 use Rattle.promises.specs.Demands.{Upheld}
 use Rattle.promises.specs.Reached.{SameSettings}
 
@@ -47,6 +48,11 @@ pub record Shows (rows : List Row) (s : Shown) : Type 0 where
   pub exactly : (s .refusal, s .place) ≡ firstDue rows
   pub zeros : s .refusal ≢ 0 → s ≡ record { refusal = s .refusal; place = s .place; level = pos 0; error = 0; least = pos 0; largest = pos 0 }
 
+-- of the worst error, which writes nothing; refused, it is 0
+pub record Errs (rows : List Row) (w : WorstError) : Type 0 where
+  pub exactly : (w .refusal, w .place) ≡ firstDue rows
+  pub none-told : w .refusal ≢ 0 → w .error ≡ 0
+
 -- of row and save; refused, no bucket is told, and the output is as it was
 pub record Counts {A : Type 0} (rows : List Row) (before after : List A) (c : Counted) : Type 0 where
   pub exactly : (c .refusal, c .place) ≡ firstDue rows
@@ -58,6 +64,7 @@ pub record ExportedDemand1 : Type 0 where
   pub nexts : (f : Fields) (l : List ℤ) (v : ℤ) → let o = nextReply f l v in Replies (nextRows (stateFrom f) l) f l (o .1) (o .0)
   pub lates : (f : Fields) (l : List ℤ) (tick : ℕ) (v : ℤ) → let o = lateReply f l tick v in Replies (lateRows (stateFrom f) l tick v) f l (o .1) (o .0)
   pub lookups : (f : Fields) (l : List ℤ) (tick : ℕ) → Shows (lookupRows (stateFrom f) l tick) (lookupReply f l tick)
+  pub worsts : (f : Fields) (l : List ℤ) → Errs (worstRows (stateFrom f) l) (worstReply f l)
   -- four numbers a bucket
   pub rows : (f : Fields) (l : List ℤ) (out : List ℤ) → let o = rowReply f l out in Counts (writeRows (stateFrom f) l (length out) (4 * f .used)) out (o .1) (o .0)
   -- sixteen bytes a bucket
@@ -71,13 +78,13 @@ pub record ExportedDemand1 : Type 0 where
   -- the zeros that a refused open or load hands back are sound in no room, so no call accepts them
   pub unsound : (l : List ℤ) → sound (stateFrom none) l ≡ false
   pub unusable : (l : List ℤ) (tick : ℕ) (v : ℤ) (out : List ℤ) (bytes : List ℕ)
-      → nextReply none l v .0 .refusal ∷ lateReply none l tick v .0 .refusal ∷ lookupReply none l tick .refusal ∷ rowReply none l out .0 .refusal ∷ saveReply none l bytes .0 .refusal ∷ []
-      ≡ 4 ∷ 4 ∷ 4 ∷ 4 ∷ 4 ∷ []
+      → nextReply none l v .0 .refusal ∷ lateReply none l tick v .0 .refusal ∷ lookupReply none l tick .refusal ∷ worstReply none l .refusal ∷ rowReply none l out .0 .refusal ∷ saveReply none l bytes .0 .refusal ∷ []
+      ≡ 4 ∷ 4 ∷ 4 ∷ 4 ∷ 4 ∷ 4 ∷ []
 
 -- ---- demands 2 and 3
 
 -- What a caller can reach from ndz_open with the settings named, each call getting the state and the room as the last one left them:
--- the caller has the state f, and the room holds l, after the accepted readings rs, newest first. Lookup, row and save write neither.
+-- the caller has the state f, and the room holds l, after the accepted readings rs, newest first. Lookup, worst, row and save write neither.
 pub data Called (named : Named) : List Reading → Fields → List ℤ → Type 0 where
   -- opened empty, in any room
   opens : {r : Reply} {m : List ℤ} (l : List ℤ) → openReply named l ≡ (r, m) → r .refusal ≡ 0 → Called named [] (r .state) m
@@ -133,7 +140,10 @@ pub record Promised (named : Named) (rs : List Reading) (f : Fields) (l : List �
       → loadReply other (saved (bucketsOf named rs)) room .0 ≡ record { refusal = 0; place = 0; state = f }
   -- demand 3: against every curve of at most as many flat steps as named, by ndz_lookup itself
   pub picture : (c : Curve) (E : ℕ) → curve.steps c ≤ named .steps → Near E c rs → (r : Reading) → List·Memᴰ r rs → Within E f l r
-  -- which shows, at each tick, the level, error, least and largest of the bucket that holds it
+  -- and by ndz_worst, which tells the greatest error of the buckets of the rule
+  pub worst-told : worstReply f l ≡ record { refusal = 0; place = 0; error = worst (bucketsOf named rs) }
+  pub worst-within : (c : Curve) (E : ℕ) → curve.steps c ≤ named .steps → Near E c rs → worst (bucketsOf named rs) ≤ E
+  -- ndz_lookup shows, at each tick, the level, error, least and largest of the bucket that holds it
   pub lookups : (tick : ℕ) (b : Bucket) → List·Memᴰ b (bucketsOf named rs) → holds tick b ≡ true
       → lookupReply f l tick ≡ record { refusal = 0; place = 0; level = level b; error = error b; least = b .least; largest = b .largest }
   -- ndz_lookup shows exactly the ticks of the accepted readings: any other is refused, above the last tick by 6 and else by 12

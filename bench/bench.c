@@ -6,7 +6,7 @@
 #include <string.h>
 #include <time.h>
 
-#define NUMBERS (NDZ_SLOT * (2 * 256 + 256 + 1))
+#define NUMBERS NDZ_NUMBERS(NDZ_LATE, NDZ_MOST_STEPS, NDZ_MOST_GAPS)
 
 typedef ndz_answer (*next_call)(ndz_state, int64_t *, size_t, int32_t);
 typedef ndz_answer (*late_call)(ndz_state, int64_t *, size_t, uint32_t, int32_t);
@@ -87,14 +87,15 @@ static void line(const char *what, uint32_t turns, double library, double plain)
     fflush(stdout);
 }
 
-static void readings(uint64_t kind, uint64_t steps, uint64_t gaps, uint32_t count, int unchecked)
+static void readings(ndz_settings settings, uint32_t count, int unchecked)
 {
-    size_t numbers = NDZ_SLOT * ndz_slots(kind, steps, gaps);
-    ndz_state library = ndz_open(kind, steps, gaps, library_room, numbers).state;
-    ndz_state plain = plain_open(kind, steps, gaps, plain_room, numbers).state;
+    size_t numbers = NDZ_NUMBERS(settings.kind, settings.steps, settings.gaps);
+    int late = settings.kind == NDZ_LATE;
+    ndz_state library = ndz_open(settings, library_room, numbers).state;
+    ndz_state plain = plain_open(settings, plain_room, numbers).state;
     double of_library, of_plain;
     plain_checks = 1;
-    if (kind) {
+    if (late) {
         of_library = feed_late(ndz_late, &library, library_room, numbers, count);
         of_plain = feed_late(plain_late, &plain, plain_room, numbers, count);
     } else {
@@ -103,14 +104,14 @@ static void readings(uint64_t kind, uint64_t steps, uint64_t gaps, uint32_t coun
     }
     same(&library, &plain, numbers);
     char what[80];
-    snprintf(what, sizeof what, "%s, B = %" PRIu64 "%s", kind ? "late" : "next", steps, kind ? ", K = 256" : "");
+    snprintf(what, sizeof what, "%s, B = %" PRIu64 "%s", late ? "late" : "next", settings.steps, late ? ", K = 256" : "");
     line(what, count, of_library, of_plain);
     if (!unchecked)
         return;
     double check = check_only(&library, library_room, numbers, count);
-    plain = plain_open(kind, steps, gaps, plain_room, numbers).state;
+    plain = plain_open(settings, plain_room, numbers).state;
     plain_checks = 0;
-    of_plain = kind ? feed_late(plain_late, &plain, plain_room, numbers, count) : feed_next(plain_next, &plain, plain_room, numbers, count);
+    of_plain = late ? feed_late(plain_late, &plain, plain_room, numbers, count) : feed_next(plain_next, &plain, plain_room, numbers, count);
     same(&library, &plain, numbers);
     snprintf(what, sizeof what, "the same without the check");
     line(what, count, of_library - check, of_plain);
@@ -119,9 +120,10 @@ static void readings(uint64_t kind, uint64_t steps, uint64_t gaps, uint32_t coun
 static void files(uint32_t turns)
 {
     size_t numbers = NUMBERS;
-    ndz_state state = ndz_open(NDZ_LATE, 256, 256, library_room, numbers).state;
+    ndz_settings settings = {.kind = NDZ_LATE, .steps = NDZ_MOST_STEPS, .gaps = NDZ_MOST_GAPS};
+    ndz_state state = ndz_open(settings, library_room, numbers).state;
     feed_late(ndz_late, &state, library_room, numbers, 100000);
-    uint8_t mine[NDZ_RECORD_BYTES * 768], other[NDZ_RECORD_BYTES * 768];
+    uint8_t mine[NDZ_RECORD_BYTES * NDZ_MOST_BUCKETS], other[NDZ_RECORD_BYTES * NDZ_MOST_BUCKETS];
     memset(mine, 0, sizeof mine);
     memset(other, 0, sizeof other);
     double begun = now();
@@ -142,12 +144,12 @@ static void files(uint32_t turns)
     size_t bytes = NDZ_RECORD_BYTES * state.used;
     begun = now();
     for (uint32_t i = 0; i < turns; i++)
-        if (ndz_load(NDZ_LATE, 256, 256, mine, bytes, library_room, numbers).refusal)
+        if (ndz_load(settings, mine, bytes, library_room, numbers).refusal)
             fail("load");
     of_library = now() - begun;
     begun = now();
     for (uint32_t i = 0; i < turns; i++)
-        if (plain_load(NDZ_LATE, 256, 256, mine, bytes, plain_room, numbers).refusal)
+        if (plain_load(settings, mine, bytes, plain_room, numbers).refusal)
             fail("plain load");
     of_plain = now() - begun;
     if (memcmp(library_room, plain_room, sizeof plain_room) != 0)
@@ -160,11 +162,11 @@ int main(int argc, char **argv)
 {
     uint32_t count = argc > 1 ? (uint32_t)strtoul(argv[1], NULL, 10) : 2000000;
     printf("| call | library, ns | plain C, ns | ratio |\n|---|---|---|---|\n");
-    readings(NDZ_IN_ORDER, 32, 0, count, 1);
-    readings(NDZ_LATE, 256, 256, count, 1);
+    readings((ndz_settings){.kind = NDZ_IN_ORDER, .steps = NDZ_DEFAULT_STEPS}, count, 1);
+    readings((ndz_settings){.kind = NDZ_LATE, .steps = NDZ_MOST_STEPS, .gaps = NDZ_MOST_GAPS}, count, 1);
     static const uint64_t sizes[] = {1, 4, 16, 64, 256};
     for (int i = 0; i < 5; i++)
-        readings(NDZ_IN_ORDER, sizes[i], 0, count / 10, 0);
+        readings((ndz_settings){.kind = NDZ_IN_ORDER, .steps = sizes[i]}, count / 10, 0);
     files(count / 100);
     return 0;
 }

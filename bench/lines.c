@@ -3,7 +3,7 @@
 #include <inttypes.h>
 #include <stdio.h>
 
-#define NUMBERS (NDZ_SLOT * (2 * NDZ_DEFAULT_STEPS + 1))
+#define NUMBERS NDZ_NUMBERS(NDZ_IN_ORDER, NDZ_DEFAULT_STEPS, 0)
 
 static char input[65536];
 static size_t have, at;
@@ -22,7 +22,7 @@ static int next_byte(void)
 int main(void)
 {
     int64_t room[NUMBERS];
-    ndz_answer trace = plain_open(NDZ_IN_ORDER, NDZ_DEFAULT_STEPS, 0, room, NUMBERS);
+    ndz_answer trace = plain_open((ndz_settings){.kind = NDZ_IN_ORDER, .steps = NDZ_DEFAULT_STEPS}, room, NUMBERS);
     for (int byte = next_byte(); byte != EOF; byte = next_byte()) {
         int negative = byte == '-', digits = 0;
         int64_t value = 0;

@@ -4,13 +4,14 @@
 #include <stdio.h>
 
 #define STEPS 2
-#define NUMBERS (NDZ_SLOT * (2 * STEPS + 1))
+#define NUMBERS NDZ_NUMBERS(NDZ_IN_ORDER, STEPS, 0)
 #define BUCKETS (2 * STEPS)
 
-static int refused(const char *call, uint32_t refusal, uint64_t place)
+/* Says which call was refused and why, and whether it was. */
+static int refused(const char *call, uint32_t refusal)
 {
     if (refusal != 0)
-        printf("%s refused %" PRIu32 " %" PRIu64 "\n", call, refusal, place);
+        printf("%s: %s\n", call, ndz_refusal_text(refusal));
     return refusal != 0;
 }
 
@@ -18,41 +19,36 @@ int main(void)
 {
     /* A relay's coil voltage in millivolts, with the two-reading drop that a good one shows. */
     static const int32_t relay[] = {12040, 12050, 12045, 12050, 12048, 7390, 7410, 12047, 12051, 12049, 60, 55, 62, 58};
-    int64_t room[NUMBERS];
-    ndz_answer trace = ndz_open(NDZ_IN_ORDER, STEPS, 0, room, NUMBERS);
-    if (refused("open", trace.refusal, trace.place))
-        return 1;
-    for (size_t i = 0; i < sizeof relay / sizeof relay[0]; i++) {
-        trace = ndz_next(trace.state, room, NUMBERS, relay[i]);
-        if (refused("next", trace.refusal, trace.place))
-            return 1;
-    }
-    printf("%" PRIu64 " readings in %" PRIu64 " steps\n", trace.state.readings, trace.state.used);
+    const ndz_settings settings = {NDZ_IN_ORDER, STEPS, 0};
+    int64_t room[NUMBERS], other_room[NUMBERS], row[NDZ_SLOT * BUCKETS];
+    uint8_t file[NDZ_RECORD_BYTES * BUCKETS];
+    ndz_state state, other;
 
-    ndz_found drop = ndz_lookup(trace.state, room, NUMBERS, 5);
-    if (refused("lookup", drop.refusal, drop.place))
+    if (refused("open", ndz_take(&state, ndz_open(settings, room, NUMBERS))))
+        return 1;
+    for (size_t i = 0; i < sizeof relay / sizeof relay[0]; i++)
+        if (refused("next", ndz_take(&state, ndz_next(state, room, NUMBERS, relay[i]))))
+            return 1;
+    printf("%" PRIu64 " readings in %" PRIu64 " steps\n", state.readings, state.used);
+
+    ndz_found drop = ndz_lookup(state, room, NUMBERS, 5);
+    if (refused("lookup", drop.refusal))
         return 1;
     printf("tick 5: level %" PRId32 ", error %" PRIu32 ", %" PRId32 " to %" PRId32 "\n", drop.level, drop.error, drop.least, drop.largest);
 
-    /* A reading with a tick does not fit a trace in order: the answer carries the state that was given. */
-    ndz_answer late = ndz_late(trace.state, room, NUMBERS, 99, 0);
-    refused("late", late.refusal, late.place);
+    /* A reading with a tick does not fit a trace in order: the state at hand stays. */
+    refused("late", ndz_take(&state, ndz_late(state, room, NUMBERS, 99, 0)));
 
-    uint8_t file[NDZ_RECORD_BYTES * BUCKETS];
-    ndz_written saved = ndz_save(late.state, room, NUMBERS, file, sizeof file);
-    if (refused("save", saved.refusal, saved.place))
+    ndz_written saved = ndz_save(state, room, NUMBERS, file, sizeof file);
+    if (refused("save", saved.refusal))
+        return 1;
+    if (refused("load", ndz_take(&other, ndz_load(settings, file, NDZ_RECORD_BYTES * saved.buckets, other_room, NUMBERS))))
         return 1;
 
-    int64_t other[NUMBERS];
-    ndz_answer again = ndz_load(NDZ_IN_ORDER, STEPS, 0, file, NDZ_RECORD_BYTES * saved.buckets, other, NUMBERS);
-    if (refused("load", again.refusal, again.place))
+    ndz_written shown = ndz_row(other, other_room, NUMBERS, row, NDZ_SLOT * BUCKETS);
+    if (refused("row", shown.refusal))
         return 1;
-
-    int64_t row[NDZ_SLOT * BUCKETS];
-    ndz_written shown = ndz_row(again.state, other, NUMBERS, row, NDZ_SLOT * BUCKETS);
-    if (refused("row", shown.refusal, shown.place))
-        return 1;
-    for (uint64_t i = 0; i < shown.buckets; i++)
+    for (size_t i = 0; i < shown.buckets; i++)
         printf("%" PRId64 " %" PRId64 " %" PRId64 " %" PRId64 "\n", row[4 * i], row[4 * i + 1], row[4 * i + 2], row[4 * i + 3]);
     return 0;
 }

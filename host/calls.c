@@ -132,8 +132,29 @@ static void read_on(int opcode, ndz_answer answer)
     answered(opcode, answer);
 }
 
-static void looked_up(ndz_found found)
+/* No command asks for ndz_level, ndz_error and ndz_worst: with every lookup they must tell what it and the room do. */
+static int agreed(uint32_t tick, ndz_found found)
 {
+    ndz_worst_error worst = ndz_worst(state, room, lent_numbers());
+    if (worst.refusal != 0 || found.refusal == NDZ_UNSOUND)
+        return worst.refusal == NDZ_UNSOUND && found.refusal == NDZ_UNSOUND && worst.place == 0 && worst.error == 0;
+    uint32_t greatest = 0;
+    int here = found.refusal != 0;
+    for (const int64_t *slot = room; slot < room + NDZ_SLOT * state.used; slot += NDZ_SLOT) {
+        ndz_bucket bucket = {(uint32_t)slot[0], (uint32_t)slot[1], (int32_t)slot[2], (int32_t)slot[3]};
+        uint32_t error = ndz_error(bucket);
+        if (greatest < error)
+            greatest = error;
+        if (found.refusal == 0 && bucket.start <= tick && tick - bucket.start < bucket.count)
+            here = ndz_level(bucket) == found.level && error == found.error;
+    }
+    return here && worst.error == greatest;
+}
+
+static void looked_up(uint32_t tick, ndz_found found)
+{
+    if (!agreed(tick, found))
+        text("ndz_level, ndz_error or ndz_worst differs ");
     begin(LOOKUP, found.refusal, found.place);
     if (found.refusal == 0) {
         text("found ");
@@ -187,10 +208,11 @@ static void obey(const uint8_t *command)
     uint8_t choice = command[1];
     uint32_t first = word(command + 4), second = word(command + 8), third = word(command + 12);
     uint64_t both = second | (uint64_t)third << 32;
+    ndz_settings settings = {.kind = choice, .steps = first, .gaps = second};
     switch (command[0]) {
     case OPEN:
         lent = third;
-        answered(OPEN, ndz_open(choice, first, second, room, lent_numbers()));
+        answered(OPEN, ndz_open(settings, room, lent_numbers()));
         break;
     case NEXT:
         read_on(NEXT, ndz_next(state, room, lent_numbers(), (int32_t)first));
@@ -199,7 +221,7 @@ static void obey(const uint8_t *command)
         read_on(LATE, ndz_late(state, room, lent_numbers(), first, (int32_t)second));
         break;
     case LOOKUP:
-        looked_up(ndz_lookup(state, room, lent_numbers(), first));
+        looked_up(first, ndz_lookup(state, room, lent_numbers(), first));
         break;
     case POKE:
         if (first < NUMBERS)
@@ -219,7 +241,7 @@ static void obey(const uint8_t *command)
         end();
         break;
     case LOAD:
-        answered(LOAD, ndz_load(choice, first, second, file, least(third, FILE_BYTES), room, lent_numbers()));
+        answered(LOAD, ndz_load(settings, file, least(third, FILE_BYTES), room, lent_numbers()));
         break;
     case POKE_BYTES:
         poke_bytes(choice, first, both);

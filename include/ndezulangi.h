@@ -1,22 +1,29 @@
 /* Ndezulangi from C: a trace of readings kept as a few flat steps, in numbers that the caller lends.
  *
  * What every call keeps
- *   A call ends with its answer or with one refusal. `refusal` is 0 where the call was accepted, else document 01's number
- *   (the NDZ_ names below); `place` is 0 but for NDZ_RECORD, where it is the index of the record. After a refusal no lent
- *   number or byte has changed. The conditions are tried in the order in which a call lists its refusals, and the first that
- *   holds is the one given. All this is proved of the functions themselves (crates/ndezulangi), for any numbers and bytes.
+ *   A call ends with its answer or with one refusal. `refusal` is 0 where the call was accepted, else the number of one of
+ *   the NDZ_ names below (ndz_refusal_text has them in words); `place` is 0 but for NDZ_RECORD, where it is the index of the
+ *   record. After a refusal nothing that was lent has changed, but for the count of refused readings in a tally. The
+ *   conditions are tried in the order in which a call lists its refusals, and the first that holds is the one given. All
+ *   this is proved of the functions themselves (crates/ndezulangi), for any numbers and bytes.
  *
  * What every call needs
- *   A pointer comes with the number of its elements (not bytes). It must point to that many readable elements, writable ones
- *   where it is not const, and must not be null even if the number is 0. Memory that a call writes must not overlap anything
- *   else that it is lent. These three are the caller's part: C cannot check them. Nothing is allocated and nothing is kept
- *   between calls, so calls on different traces may run at the same time.
+ *   A pointer comes with the number of its elements: `numbers` counts numbers of 64 bits, not slots and not bytes. It must
+ *   point to that many readable elements, writable ones where it is not const, and must not be null even if the number is 0.
+ *   Memory that a call writes must not overlap anything else that it is lent. These three are the caller's part: C cannot
+ *   check them. Nothing is allocated and nothing is kept between calls, so calls on different traces may run at the same
+ *   time.
  *
  * The room
- *   Signed 64-bit numbers, four to a slot: start, count, least, largest. A trace of B steps needs ndz_slots(kind, B, K) slots;
- *   it may be lent more. The slots in use come first, in tick order, the others up to the needed number are zeros, and numbers
- *   past the needed slots are never written. Hand each call the state that the last one left and the same room; state and room
- *   that do not belong together are refused by NDZ_UNSOUND, whatever they hold.
+ *   Signed 64-bit numbers, four to a slot: start, count, least, largest. NDZ_NUMBERS(kind, B, K) numbers are enough for a
+ *   trace, and a room may have more. The slots in use come first, in tick order, the others up to the needed number are
+ *   zeros, and what lies behind the needed slots is never written. Hand each call the state that the last one left and the
+ *   same room; state and room that do not belong together are refused by NDZ_UNSOUND, whatever they hold.
+ *
+ * Going on after an answer
+ *   ndz_take(&state, ndz_next(state, ..)) goes on with an accepted answer's state and leaves the state where the call was
+ *   refused; it returns the refusal. `state = ndz_load(..).state` without a look at the refusal loses the trace at hand: a
+ *   refused open or load answers a state of zeros, which no call accepts.
  */
 #ifndef NDEZULANGI_H
 #define NDEZULANGI_H
@@ -28,39 +35,73 @@
 extern "C" {
 #endif
 
-/* Kinds. Any other number than 0 is taken as late. */
+#define NDZ_VERSION_MAJOR 0
+#define NDZ_VERSION_MINOR 2
+
+/* Kinds. Any other number than 0 is taken as late, and an accepted call hands it back as 1. */
 #define NDZ_IN_ORDER 0 /* the next reading takes the next tick, from 0 */
 #define NDZ_LATE 1     /* each reading names its tick, in any order */
 
+/* Limits. */
 #define NDZ_DEFAULT_STEPS 32
+#define NDZ_MOST_STEPS 256
+#define NDZ_MOST_GAPS 256
 #define NDZ_LAST_TICK 16777215
-#define NDZ_SLOT 4    /* numbers of a slot, and of a bucket in a row */
-#define NDZ_RECORD_BYTES 16
+#define NDZ_MOST_BUCKETS 768 /* of any trace: 2B and K at their most */
+#define NDZ_SLOT 4           /* numbers of a slot */
+#define NDZ_RECORD_BYTES 16  /* bytes of a saved bucket */
+
+/* How many numbers a trace needs: four for each of 2B + 1 slots in order, of 2B + K + 1 late. For B and K in their bounds a
+ * constant where they are: int64_t room[NDZ_NUMBERS(NDZ_IN_ORDER, 32, 0)]. */
+#define NDZ_NUMBERS(kind, steps, gaps) (NDZ_SLOT * (2 * (steps) + ((kind) == NDZ_IN_ORDER ? 0 : (gaps)) + 1))
 
 /* Refusals. */
-#define NDZ_STEPS 1     /* B is 0 or above 256 */
-#define NDZ_GAPS 2      /* late, and K is 0 or above 256 */
-#define NDZ_ROOM 3      /* fewer numbers than four for each slot needed */
-#define NDZ_UNSOUND 4   /* state and room are not sound */
-#define NDZ_KIND 5      /* an in-order call on a late trace, or the reverse */
-#define NDZ_TICK 6      /* a tick above the last; in order, no tick left */
-#define NDZ_LENGTH 7    /* the bytes are not a multiple of 16 */
-#define NDZ_RECORD 8    /* a record breaks a rule; the place is the first such index */
-#define NDZ_RUNS 9      /* late, and there would be more than K runs */
-#define NDZ_OVERFULL 10 /* more records than the limit */
-#define NDZ_TAKEN 11    /* the tick is already held */
-#define NDZ_ABSENT 12   /* the tick is not held */
-#define NDZ_SHORT 13    /* the output is too short for the buckets */
+#define NDZ_STEPS 1
+#define NDZ_GAPS 2
+#define NDZ_ROOM 3
+#define NDZ_UNSOUND 4
+#define NDZ_KIND 5
+#define NDZ_TICK 6
+#define NDZ_LENGTH 7
+#define NDZ_RECORD 8
+#define NDZ_RUNS 9
+#define NDZ_OVERFULL 10
+#define NDZ_TAKEN 11
+#define NDZ_ABSENT 12
+#define NDZ_SHORT 13
 
-/* A trace but for its room. B is `steps`; K, the most unbroken runs of a late trace, is `gaps`, and 0 in order. */
+/* What a trace is opened or loaded with. B is `steps`; K, the most unbroken runs of a late trace, is `gaps`, which is
+ * ignored in order. */
 typedef struct {
     uint64_t kind;
     uint64_t steps;
     uint64_t gaps;
+} ndz_settings;
+
+/* A trace but for its room. */
+typedef struct {
+    uint64_t kind;
+    uint64_t steps;
+    uint64_t gaps;     /* 0 in order */
     uint64_t used;     /* slots in use: the buckets */
     uint64_t runs;     /* longest stretches of arrived ticks */
     uint64_t readings; /* accepted so far */
 } ndz_state;
+
+/* Ticks from `start` on, `count` of them, and the least and largest reading among them. */
+typedef struct {
+    uint32_t start;
+    uint32_t count;
+    int32_t least;
+    int32_t largest;
+} ndz_bucket;
+
+/* What became of the readings of a session; each count stops at 4294967295. */
+typedef struct {
+    uint32_t accepted;
+    uint32_t refused;
+    uint32_t merges;
+} ndz_tally;
 
 /* Accepted: the next state. Refused: the state that was given; of a refused open or load all zeros, which no call accepts. */
 typedef struct {
@@ -87,15 +128,16 @@ typedef struct {
     uint64_t buckets;
 } ndz_written;
 
-/* Slots that a trace needs: 2B + 1 in order, 2B + K + 1 late. */
-static inline uint64_t ndz_slots(uint64_t kind, uint64_t steps, uint64_t gaps)
-{
-    return 2 * steps + (kind == NDZ_IN_ORDER ? 0 : gaps) + 1;
-}
+/* The worst error of a trace; 0 where refused. */
+typedef struct {
+    uint32_t refusal;
+    uint64_t place;
+    uint32_t error;
+} ndz_worst_error;
 
 /* An empty trace; the needed slots become zeros. In order the given K is ignored and kept as 0.
  * Refuses: NDZ_STEPS, NDZ_GAPS, NDZ_ROOM. */
-ndz_answer ndz_open(uint64_t kind, uint64_t steps, uint64_t gaps, int64_t *room, size_t numbers);
+ndz_answer ndz_open(ndz_settings settings, int64_t *room, size_t numbers);
 
 /* The next reading of a trace in order: it takes the tick after the last one.
  * Refuses: NDZ_UNSOUND, NDZ_KIND, NDZ_TICK. */
@@ -109,10 +151,18 @@ ndz_answer ndz_late(ndz_state state, int64_t *room, size_t numbers, uint32_t tic
  * Refuses: NDZ_UNSOUND, NDZ_TICK, NDZ_ABSENT. */
 ndz_found ndz_lookup(ndz_state state, const int64_t *room, size_t numbers, uint32_t tick);
 
+/* The greatest error of a bucket, 0 for an empty trace. Writes nothing.
+ * Refuses: NDZ_UNSOUND. */
+ndz_worst_error ndz_worst(ndz_state state, const int64_t *room, size_t numbers);
+
 /* The chart row: the buckets in tick order, four numbers each (start, count, least, largest), into the first places of `out`;
  * what lies behind them stays.
  * Refuses: NDZ_UNSOUND, NDZ_SHORT (`out` has fewer than four numbers for each bucket). */
 ndz_written ndz_row(ndz_state state, const int64_t *room, size_t numbers, int64_t *out, size_t out_numbers);
+
+/* Level and error of a bucket. */
+int32_t ndz_level(ndz_bucket bucket);
+uint32_t ndz_error(ndz_bucket bucket);
 
 /* The saved form: 16 bytes a bucket, in tick order; each field 32 bits, low byte first. Bytes behind them stay.
  * Refuses: NDZ_UNSOUND, NDZ_SHORT (`out` has fewer than 16 bytes for each bucket). */
@@ -120,8 +170,37 @@ ndz_written ndz_save(ndz_state state, const int64_t *room, size_t numbers, uint8
 
 /* The trace of saved bytes. With the settings that it was saved with, it is the same trace.
  * Refuses: NDZ_STEPS, NDZ_GAPS, NDZ_ROOM, NDZ_LENGTH, NDZ_RECORD, NDZ_RUNS, NDZ_OVERFULL. */
-ndz_answer ndz_load(uint64_t kind, uint64_t steps, uint64_t gaps, const uint8_t *file, size_t bytes, int64_t *room,
-                    size_t numbers);
+ndz_answer ndz_load(ndz_settings settings, const uint8_t *file, size_t bytes, int64_t *room, size_t numbers);
+
+/* Goes on with the state of an accepted answer, and with the state at hand where it was refused. Returns the refusal. */
+static inline uint32_t ndz_take(ndz_state *state, ndz_answer answer)
+{
+    if (answer.refusal == 0)
+        *state = answer.state;
+    return answer.refusal;
+}
+
+/* A refusal in words. */
+static inline const char *ndz_refusal_text(uint32_t refusal)
+{
+    switch (refusal) {
+    case 0: return "accepted";
+    case NDZ_STEPS: return "the number of steps is 0 or above 256";
+    case NDZ_GAPS: return "the number of runs allowed is 0 or above 256";
+    case NDZ_ROOM: return "the room is too short";
+    case NDZ_UNSOUND: return "state and room are not a sound trace";
+    case NDZ_KIND: return "the call is for the other kind of trace";
+    case NDZ_TICK: return "the tick is above the last one, or no tick is left";
+    case NDZ_LENGTH: return "the saved bytes are not a multiple of 16";
+    case NDZ_RECORD: return "a saved record breaks a rule";
+    case NDZ_RUNS: return "there would be more runs than allowed";
+    case NDZ_OVERFULL: return "there are more saved records than steps allowed";
+    case NDZ_TAKEN: return "the tick already has a reading";
+    case NDZ_ABSENT: return "the tick has no reading";
+    case NDZ_SHORT: return "the output is too short";
+    default: return "no refusal has this number";
+    }
+}
 
 #ifdef __cplusplus
 }

@@ -3,7 +3,6 @@ ghost use Prim.Native.Nat.{_*_, _≤_};
 ghost use mathlib.Core.Path.{_≡_};
 ghost use lib.ListN.{length};
 ghost use Rattle.rule.specs.Room.{slots, tableOf};
-ghost use Rattle.rule.specs.Table.{worst};
 ghost use Rattle.slots.specs.Slots.{Filled};
 ghost use Rattle.printing.specs.Printing.{Printed, lineRoom, listing, rows};
 ghost use Rattle.listing.specs.Listing.{shown};
@@ -14,23 +13,7 @@ use printing::put_row;
 use printing::put_total;
 use trace::Answer;
 use trace::Trace;
-
-// The greatest error of the buckets in the first slots, 0 where there are none.
-fn worst(room: &[i64], used: usize) -> u32
-    requires { ⌜ Filled (now room) used ⌝ }
-    ensures { λ r. ⌜ r ≡ worst (slots (now (room .entry)) 0 used) ⌝ }
-{
-    let mut most: u32 = 0;
-    let mut i = 0;
-    while i < used {
-        let e = slots::read(room, i).error();
-        if most < e {
-            most = e;
-        }
-        i += 1;
-    }
-    most
-}
+use worst::greatest_error;
 
 // One line a bucket of the first slots.
 fn rows(room: &[i64], used: usize, out: &mut [u8]) -> usize
@@ -53,7 +36,7 @@ fn listed(t: Trace, room: &[i64], out: &mut [u8]) -> usize
 {
     let s = t.state;
     let at = rows(room, s.used, &mut *out);
-    put_total(&mut *out, at, s.readings, s.used, worst(room, s.used))
+    put_total(&mut *out, at, s.readings, s.used, greatest_error(room, s.used))
 }
 
 // What is written, and how many bytes it has.

@@ -13,10 +13,14 @@ use Rattle.rule.specs.Calls.{lateOutcome, loaded, lookupOutcome, nextOutcome, o
 use Rattle.row.specs.Parts.{numbersOutcome}
 use Rattle.trace.specs.Answers.{answered}
 use Rattle.trace.specs.declared.Answer.{Answer}
+use Rattle.worst.specs.declared.Measured.{Measured}
+use Rattle.worst.specs.Outcome.{worstOutcome}
+use Rattle.ndezulangi.specs.declared.Named.{Named}
 use Rattle.ndezulangi.specs.declared.Fields.{Fields}
 use Rattle.ndezulangi.specs.declared.Reply.{Reply}
 use Rattle.ndezulangi.specs.declared.Shown.{Shown}
 use Rattle.ndezulangi.specs.declared.Counted.{Counted}
+use Rattle.ndezulangi.specs.declared.WorstError.{WorstError}
 
 -- 0 is in order, any other number late
 unfoldable pub kindOf : ℕ → Kind
@@ -27,11 +31,11 @@ unfoldable pub numberOf : Kind → ℕ
 numberOf InOrder = 0
 numberOf Late = 1
 
-abbrev pub settingsOf : ℕ → ℕ → ℕ → Settings
-settingsOf kind steps gaps = record { kind = kindOf kind; steps = steps; gaps = gaps }
+abbrev pub settingsOf : Named → Settings
+settingsOf named = record { kind = kindOf (named .kind); steps = named .steps; gaps = named .gaps }
 
 abbrev pub stateFrom : Fields → State
-stateFrom f = record { settings = settingsOf (f .kind) (f .steps) (f .gaps); used = f .used; runs = f .runs; readings = f .readings }
+stateFrom f = record { settings = settingsOf (record { kind = f .kind; steps = f .steps; gaps = f .gaps }); used = f .used; runs = f .runs; readings = f .readings }
 
 abbrev pub fieldsOf : State → Fields
 fieldsOf s = record { kind = numberOf (s .settings .kind); steps = s .settings .steps; gaps = s .settings .gaps; used = s .used; runs = s .runs; readings = s .readings }
@@ -63,10 +67,15 @@ telling (Written.Refused r) = record { refusal = number r; place = place r; buck
 abbrev pub told : {A : Type 0} → Written × List A → Counted × List A
 told w = (telling (w .0), w .1)
 
+-- refused: no error
+unfoldable pub erring : Measured → WorstError
+erring (Measured.Error e) = record { refusal = 0; place = 0; error = e }
+erring (Measured.Refused r) = record { refusal = number r; place = place r; error = 0 }
+
 -- ---- what each exported function answers, with the room or the output as it leaves it
 
-abbrev pub openReply : ℕ → ℕ → ℕ → List ℤ → Reply × List ℤ
-openReply kind steps gaps room = replied none (answered (opened (settingsOf kind steps gaps) room))
+abbrev pub openReply : Named → List ℤ → Reply × List ℤ
+openReply named room = replied none (answered (opened (settingsOf named) room))
 
 abbrev pub nextReply : Fields → List ℤ → ℤ → Reply × List ℤ
 nextReply state room value = replied state (answered (nextOutcome (stateFrom state) room value))
@@ -77,11 +86,14 @@ lateReply state room tick value = replied state (answered (lateOutcome (stateFro
 abbrev pub lookupReply : Fields → List ℤ → ℕ → Shown
 lookupReply state room tick = showing (lookupOutcome (stateFrom state) room tick)
 
+abbrev pub worstReply : Fields → List ℤ → WorstError
+worstReply state room = erring (worstOutcome (stateFrom state) room)
+
 abbrev pub rowReply : Fields → List ℤ → List ℤ → Counted × List ℤ
 rowReply state room out = told (numbersOutcome (stateFrom state) room out)
 
 abbrev pub saveReply : Fields → List ℤ → List ℕ → Counted × List ℕ
 saveReply state room out = told (saveOutcome (stateFrom state) room out)
 
-abbrev pub loadReply : ℕ → ℕ → ℕ → List ℕ → List ℤ → Reply × List ℤ
-loadReply kind steps gaps file room = replied none (answered (loaded (settingsOf kind steps gaps) file room))
+abbrev pub loadReply : Named → List ℕ → List ℤ → Reply × List ℤ
+loadReply named file room = replied none (answered (loaded (settingsOf named) file room))

@@ -1,7 +1,9 @@
 // The calls for other languages: plain C functions over lent numbers and bytes, the state as plain fields. include/ndezulangi.h is their manual.
 // Each hands on to the call of its name and does nothing of its own.
 ghost use mathlib.Core.Path.{_≡_};
-ghost use Rattle.ndezulangi.specs.Plain.{fieldsOf, kindOf, lateReply, loadReply, lookupReply, nextReply, none, numberOf, openReply, replying, rowReply, saveReply, settingsOf, showing, stateFrom, telling};
+ghost use Rattle.rule.specs.Bucket.{error, level};
+ghost use Rattle.ndezulangi.specs.Plain.{erring, fieldsOf, kindOf, lateReply, loadReply, lookupReply, nextReply, none, numberOf, openReply, replying, rowReply, saveReply, settingsOf, showing, stateFrom, telling, worstReply};
+use rule::Bucket;
 use rule::Found;
 use rule::Kind;
 use rule::Settings;
@@ -9,6 +11,15 @@ use rule::State;
 use rule::Written;
 use trace::Answer;
 use trace::Trace;
+use worst::Measured;
+
+// What a trace is opened or loaded with: its kind is 0 in order and any other number late; B and K.
+#[repr(C)]
+pub struct Named {
+    pub kind: usize,
+    pub steps: usize,
+    pub gaps: usize,
+}
 
 // A state: its kind is 0 in order and any other number late; B, K, slots in use, runs, readings.
 #[repr(C)]
@@ -48,6 +59,14 @@ pub struct Counted {
     pub buckets: usize,
 }
 
+// The worst error of a trace; 0 where it is refused.
+#[repr(C)]
+pub struct WorstError {
+    pub refusal: u32,
+    pub place: usize,
+    pub error: u32,
+}
+
 fn kind_of(number: usize) -> Kind
     ensures { λ r. ⌜ r ≡ kindOf number ⌝ }
 {
@@ -67,17 +86,25 @@ fn number_of(kind: Kind) -> usize
     }
 }
 
-fn settings_of(kind: usize, steps: usize, gaps: usize) -> Settings
-    ensures { λ r. ⌜ r ≡ settingsOf kind steps gaps ⌝ }
+fn settings_of(named: Named) -> Settings
+    ensures { λ r. ⌜ r ≡ settingsOf named ⌝ }
 {
-    let kind = kind_of(kind);
-    Settings { kind, steps, gaps }
+    let kind = kind_of(named.kind);
+    Settings {
+        kind,
+        steps: named.steps,
+        gaps: named.gaps,
+    }
 }
 
 fn trace_of(f: Fields) -> Trace
     ensures { λ r. ⌜ r .state ≡ stateFrom f ⌝ }
 {
-    let settings = settings_of(f.kind, f.steps, f.gaps);
+    let settings = settings_of(Named {
+        kind: f.kind,
+        steps: f.steps,
+        gaps: f.gaps,
+    });
     Trace {
         state: State {
             settings,
@@ -179,11 +206,28 @@ fn telling(w: Written) -> Counted
     }
 }
 
-#[no_mangle]
-pub extern "C" fn ndz_open(kind: usize, steps: usize, gaps: usize, room: &mut [i64]) -> Reply
-    ensures { λ r. ⌜ (r, now (room .exit)) ≡ openReply kind steps gaps (now (room .entry)) ⌝ }
+fn erring(m: Measured) -> WorstError
+    ensures { λ r. ⌜ r ≡ erring m ⌝ }
 {
-    let settings = settings_of(kind, steps, gaps);
+    match m {
+        Measured::Error(greatest) => WorstError {
+            refusal: 0,
+            place: 0,
+            error: greatest,
+        },
+        Measured::Refused(r) => WorstError {
+            refusal: r.number(),
+            place: r.place(),
+            error: 0,
+        },
+    }
+}
+
+#[no_mangle]
+pub extern "C" fn ndz_open(named: Named, room: &mut [i64]) -> Reply
+    ensures { λ r. ⌜ (r, now (room .exit)) ≡ openReply named (now (room .entry)) ⌝ }
+{
+    let settings = settings_of(named);
     replying(none(), Trace::open(settings, &mut *room))
 }
 
@@ -211,6 +255,14 @@ pub extern "C" fn ndz_lookup(state: Fields, room: &[i64], tick: u32) -> Shown
     showing(trace.lookup(room, tick))
 }
 
+#[no_mangle]
+pub extern "C" fn ndz_worst(state: Fields, room: &[i64]) -> WorstError
+    ensures { λ r. ⌜ r ≡ worstReply state (now (room .entry)) ⌝ }
+{
+    let trace = trace_of(state);
+    erring(worst::worst(trace, room))
+}
+
 // Four numbers a bucket, as in the room.
 #[no_mangle]
 pub extern "C" fn ndz_row(state: Fields, room: &[i64], out: &mut [i64]) -> Counted
@@ -218,6 +270,20 @@ pub extern "C" fn ndz_row(state: Fields, room: &[i64], out: &mut [i64]) -> Count
 {
     let trace = trace_of(state);
     telling(row::numbers(trace, room, &mut *out))
+}
+
+#[no_mangle]
+pub extern "C" fn ndz_level(bucket: Bucket) -> i32
+    ensures { λ r. ⌜ r ≡ level bucket ⌝ }
+{
+    bucket.level()
+}
+
+#[no_mangle]
+pub extern "C" fn ndz_error(bucket: Bucket) -> u32
+    ensures { λ r. ⌜ r ≡ error bucket ⌝ }
+{
+    bucket.error()
 }
 
 #[no_mangle]
@@ -229,15 +295,9 @@ pub extern "C" fn ndz_save(state: Fields, room: &[i64], out: &mut [u8]) -> Count
 }
 
 #[no_mangle]
-pub extern "C" fn ndz_load(
-    kind: usize,
-    steps: usize,
-    gaps: usize,
-    file: &[u8],
-    room: &mut [i64],
-) -> Reply
-    ensures { λ r. ⌜ (r, now (room .exit)) ≡ loadReply kind steps gaps (now (file .entry)) (now (room .entry)) ⌝ }
+pub extern "C" fn ndz_load(named: Named, file: &[u8], room: &mut [i64]) -> Reply
+    ensures { λ r. ⌜ (r, now (room .exit)) ≡ loadReply named (now (file .entry)) (now (room .entry)) ⌝ }
 {
-    let named = settings_of(kind, steps, gaps);
-    replying(none(), saved::load(named, file, &mut *room))
+    let wanted = settings_of(named);
+    replying(none(), saved::load(wanted, file, &mut *room))
 }

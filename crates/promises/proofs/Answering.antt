@@ -32,10 +32,11 @@ use Rattle.room.specs.Steps.{Ready}
 use Rattle.room.proofs.Sounding.{sound-facts, used-needed}
 use Rattle.room.proofs.Taking.{taken-short}
 use Rattle.trace.proofs.Leaving.{late-either, next-either, open-either}
+use Rattle.worst.specs.Outcome.{measured, worstOutcome}
 use Rattle.saved.proofs.Filing.{load-accepts, load-leaves, loads-needed}
 use Rattle.promises.proofs.Outcomes.{traced-refused}
 use Rattle.rule.proofs.Whole.{by-test}
-use Rattle.promises.specs.Answered.{Answered, Demand1, Lawful, Row, fileRows, firstOf, lateRows, lookupRows, nextRows, openRows, outside, refusing, said, slotsNeeded, saidFound, saidWritten, writeRows}
+use Rattle.promises.specs.Answered.{Answered, Demand1, Lawful, Row, fileRows, firstOf, lateRows, lookupRows, nextRows, openRows, outside, refusing, said, slotsNeeded, saidFound, saidMeasured, saidWritten, worstRows, writeRows}
 
 -- ---- a call's checks and the table's rows
 
@@ -147,6 +148,10 @@ looked s l tick =
     (λ fit. by-test (leb ticks tick) (λ h. rw (fit, h)) (λ h. rw (fit, h) (absent (holding tick (tableOf s l)))))
     (λ fit. rw fit)
 
+worst-said : (s : State) (l : List ℤ) → saidMeasured (worstOutcome s l) ≡ firstOf (worstRows s l)
+unfolding worstOutcome measured checked firstOf saidMeasured
+worst-said s l = by-test (sound s l) (λ fit. rw fit) (λ fit. rw fit)
+
 told : (t : Tally) (used : ℕ) (o : Verdict State) (r : ℕ × ℕ) → said o ≡ some r → counted t used o ≡ record { accepted = t .accepted; refused = min (t .refused + 1) tallyMost; merges = t .merges }
 unfolding said counted grown
 told t used (refused q) r e = refl
@@ -244,6 +249,7 @@ demand1 = record {
   lates = λ s l tick v. answered (s .settings) l (lateVerdict s l tick v) (lateRows s l tick v)
       (said-all _ _ ∙ by-test (late (s .settings .kind)) (λ h. rw (accepted-runs (s .settings) (tableOf s l) tick v h)) (λ h. rw h));
   lookups = λ s l tick. looked s l tick;
+  worsts = worst-said;
   rows = λ s l out. written (λ t. t) out (writeVerdict s l (s .used) (length out)) (writeRows s l (length out) (s .used)) (writes s l (length out) (s .used));
   saves = λ s l out. written saved out (writeVerdict s l (recordWidth * s .used) (length out)) (writeRows s l (length out) (recordWidth * s .used)) (writes s l (length out) (recordWidth * s .used));
   numbers = λ s l out. written flat out (writeVerdict s l (slotWidth * s .used) (length out)) (writeRows s l (length out) (slotWidth * s .used)) (writes s l (length out) (slotWidth * s .used));

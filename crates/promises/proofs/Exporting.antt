@@ -31,16 +31,19 @@ use Rattle.room.proofs.Placing.{held-counts}
 use Rattle.room.proofs.Sounding.{sound-facts, sound-ordered}
 use Rattle.row.specs.Parts.{numbersOutcome}
 use Rattle.trace.specs.Answers.{answer, answered}
+use Rattle.worst.specs.declared.Measured.{Measured}
+use Rattle.worst.specs.Outcome.{measured, worstOutcome}
 use Rattle.saved.proofs.RoundTrips.{loaded-saved, saved-loaded}
 use Rattle.demands.specs.History.{Reading, arrived}
 use Rattle.ndezulangi.specs.declared.Counted.{Counted}
 use Rattle.ndezulangi.specs.declared.Fields.{Fields}
+use Rattle.ndezulangi.specs.declared.Named.{Named}
 use Rattle.ndezulangi.specs.declared.Reply.{Reply}
-use Rattle.ndezulangi.specs.Plain.{fieldsOf, kindOf, lookupReply, none, numberOf, replied, replying, settingsOf, showing, stateFrom, telling, told}
+use Rattle.ndezulangi.specs.Plain.{erring, fieldsOf, kindOf, lookupReply, none, numberOf, replied, replying, settingsOf, showing, stateFrom, telling, told, worstReply}
 use Rattle.ndezulangi.proofs.SameState.{same-state}
-use Rattle.promises.specs.Answered.{Answered, Row, fileRows, firstOf, lateRows, lookupRows, nextRows, openRows, said, saidFound, saidWritten, writeRows}
+use Rattle.promises.specs.Answered.{Answered, Row, fileRows, firstOf, lateRows, lookupRows, nextRows, openRows, said, saidFound, saidMeasured, saidWritten, worstRows, writeRows}
 use Rattle.promises.specs.Reached.{Reached}
-use Rattle.promises.specs.Exported.{Called, Counts, ExportedDemand1, ExportedDemand2, Promised, Replies, Shows, firstDue, wroteAll}
+use Rattle.promises.specs.Exported.{Called, Counts, Errs, ExportedDemand1, ExportedDemand2, Promised, Replies, Shows, firstDue, wroteAll}
 use Rattle.promises.proofs.Answering.{demand1, needed-is}
 use Rattle.promises.proofs.Keeping.{held-small, keeps, kept-same, kept-twice, loaded-kept}
 use Rattle.promises.proofs.Outcomes.{next-in-order}
@@ -67,6 +70,11 @@ unfolding saidFound showing
 shows-found (Found.Refused r) rows e = record { exactly = ap saying e ∙ sym (due rows); zeros = λ h. refl }
 shows-found (Found.Level level error least largest) rows e = record { exactly = ap saying e ∙ sym (due rows); zeros = λ h. absurd (h refl) }
 
+errs : (m : Measured) (rows : List Row) → saidMeasured m ≡ firstOf rows → Errs rows (erring m)
+unfolding saidMeasured erring
+errs (Measured.Refused r) rows e = record { exactly = ap saying e ∙ sym (due rows); none-told = λ h. refl }
+errs (Measured.Error n) rows e = record { exactly = ap saying e ∙ sym (due rows); none-told = λ h. absurd (h refl) }
+
 counts : {A : Type 0} (w : Written) (rows : List Row) (before after : List A) → Answered (saidWritten w) rows before after → Counts rows before after (telling w)
 unfolding saidWritten telling
 counts (Written.Refused r) rows before after a = record { exactly = ap saying (a .exactly) ∙ sym (due rows); untouched = λ h. (refl, a .untouched (number r, place r) refl) }
@@ -78,16 +86,17 @@ eight back (refused r) e = ap (λ (n : ℕ). some (n, place r)) e
 eight back (accepted s) e = absurd (omega arith)
 
 pub exported-demand1 : ExportedDemand1
-unfolding sound clauses allOf stepsGood nextVerdict lateVerdict lookupOutcome foundOf writeVerdict checked traced wrote answer replying showing telling kindOf
+unfolding sound clauses allOf stepsGood nextVerdict lateVerdict lookupOutcome foundOf writeVerdict worstOutcome measured checked traced wrote answer replying showing telling erring kindOf
 exported-demand1 = record {
-  opens = λ kind steps gaps l. let g = settingsOf kind steps gaps in replies none (opened g l .0) (openRows g l) l (opened g l .1) (demand1 .opens g l);
+  opens = λ named l. let g = settingsOf named in replies none (opened g l .0) (openRows g l) l (opened g l .1) (demand1 .opens g l);
   nexts = λ f l v. let s = stateFrom f in replies f (nextOutcome s l v .0) (nextRows s l) l (nextOutcome s l v .1) (demand1 .nexts s l v);
   lates = λ f l tick v. let s = stateFrom f in replies f (lateOutcome s l tick v .0) (lateRows s l tick v) l (lateOutcome s l tick v .1) (demand1 .lates s l tick v);
   lookups = λ f l tick. let s = stateFrom f in shows-found (lookupOutcome s l tick) (lookupRows s l tick) (demand1 .lookups s l tick);
+  worsts = λ f l. let s = stateFrom f in errs (worstOutcome s l) (worstRows s l) (demand1 .worsts s l);
   rows = λ f l out. let s = stateFrom f in counts (numbersOutcome s l out .0) (writeRows s l (length out) (slotWidth * f .used)) out (numbersOutcome s l out .1) (demand1 .numbers s l out);
   saves = λ f l out. let s = stateFrom f in counts (saveOutcome s l out .0) (writeRows s l (length out) (recordWidth * f .used)) out (saveOutcome s l out .1) (demand1 .saves s l out);
-  loads = λ kind steps gaps file l. let g = settingsOf kind steps gaps in replies none (loaded g file l .0) (openRows g l ++ fileRows g file) l (loaded g file l .1) (demand1 .loads g file l);
-  places = λ kind steps gaps file l e. let g = settingsOf kind steps gaps in demand1 .places g file l (replying none (answer (loaded g file l .0)) .place) (eight none (loaded g file l .0) e);
+  loads = λ named file l. let g = settingsOf named in replies none (loaded g file l .0) (openRows g l ++ fileRows g file) l (loaded g file l .1) (demand1 .loads g file l);
+  places = λ named file l e. let g = settingsOf named in demand1 .places g file l (replying none (answer (loaded g file l .0)) .place) (eight none (loaded g file l .0) e);
   kinds = (refl, λ n. refl);
   unsound = λ l. refl;
   unusable = λ l tick v out bytes. refl;
@@ -144,36 +153,36 @@ writes (Written.Buckets n, l) e z = ap (λ (x : Counted × List ℕ). (Written.B
 
 -- ---- what the exported functions reach
 
-module _ {kind steps gaps : ℕ} where
+module _ {named : Named} where
   -- with the state that the caller has, which is one of the fields' own
-  reaches : {rs : List Reading} {f : Fields} {l : List ℤ} → Called kind steps gaps rs f l → Reached (settingsOf kind steps gaps) rs (stateFrom f) l × (fieldsOf (stateFrom f) ≡ f)
+  reaches : {rs : List Reading} {f : Fields} {l : List ℤ} → Called named rs f l → Reached (settingsOf named) rs (stateFrom f) l × (fieldsOf (stateFrom f) ≡ f)
   reaches (Called.opens l e z) =
-      let a = accepts none (opened (settingsOf kind steps gaps) l) e z in
+      let a = accepts none (opened (settingsOf named) l) e z in
       (Reached.opens l (a .outcome), a .plain)
   reaches (Called.nexts {rs = rs} {f = f} {l = l} {m = m} {r = r} v range c e z) =
       let s : State = stateFrom f in
       let a = accepts f (nextOutcome s l v) e z in
       let k = keeps (reaches c .0) in
-      let in-order : late (kindOf kind) ≡ false = sym (ap (λ (x : Settings). late (x .kind)) (k .named)) ∙ next-in-order s l v (a .outcome) in
-      (subst (λ (tick : ℕ). Reached (settingsOf kind steps gaps) (record { tick = tick; value = v } ∷ rs) (stateFrom (r .state)) m) (k .next in-order) (Reached.nexts v range (reaches c .0) (a .outcome)), a .plain)
+      let in-order : late (kindOf (named .kind)) ≡ false = sym (ap (λ (x : Settings). late (x .kind)) (k .named)) ∙ next-in-order s l v (a .outcome) in
+      (subst (λ (tick : ℕ). Reached (settingsOf named) (record { tick = tick; value = v } ∷ rs) (stateFrom (r .state)) m) (k .next in-order) (Reached.nexts v range (reaches c .0) (a .outcome)), a .plain)
   reaches (Called.lates {f = f} {l = l} tick v range c e z) =
       let a = accepts f (lateOutcome (stateFrom f) l tick v) e z in
       (Reached.lates tick v range (reaches c .0) (a .outcome), a .plain)
   reaches (Called.next-refused {rs = rs} {f = f} {l = l} {m = m} v c e n) =
       let a = refuses f (nextOutcome (stateFrom f) l v) e n in
-      subst (λ (x : Fields). Reached (settingsOf kind steps gaps) rs (stateFrom x) m × (fieldsOf (stateFrom x) ≡ x)) (sym (a .state)) (Reached.next-refused v (reaches c .0) (a .outcome), reaches c .1)
+      subst (λ (x : Fields). Reached (settingsOf named) rs (stateFrom x) m × (fieldsOf (stateFrom x) ≡ x)) (sym (a .state)) (Reached.next-refused v (reaches c .0) (a .outcome), reaches c .1)
   reaches (Called.late-refused {rs = rs} {f = f} {l = l} {m = m} tick v c e n) =
       let a = refuses f (lateOutcome (stateFrom f) l tick v) e n in
-      subst (λ (x : Fields). Reached (settingsOf kind steps gaps) rs (stateFrom x) m × (fieldsOf (stateFrom x) ≡ x)) (sym (a .state)) (Reached.late-refused tick v (reaches c .0) (a .outcome), reaches c .1)
-  reaches (Called.open-refused {l = l} k b g c e n) =
-      (Reached.open-refused (settingsOf k b g) (reaches c .0) (refuses none (opened (settingsOf k b g) l) e n .outcome), reaches c .1)
-  reaches (Called.load-refused {l = l} k b g file c e n) =
-      (Reached.load-refused (settingsOf k b g) file (reaches c .0) (refuses none (loaded (settingsOf k b g) file l) e n .outcome), reaches c .1)
-  reaches (Called.loads {f = f} {l = l} {c = q} {written = written} out room k b g same c saves z e y) =
-      let a = accepts none (loaded (settingsOf k b g) (take (recordWidth * q .buckets) written) room) e y in
-      (Reached.loads out room (settingsOf k b g) same (reaches c .0) (writes (saveOutcome (stateFrom f) l out) saves z) (a .outcome), a .plain)
+      subst (λ (x : Fields). Reached (settingsOf named) rs (stateFrom x) m × (fieldsOf (stateFrom x) ≡ x)) (sym (a .state)) (Reached.late-refused tick v (reaches c .0) (a .outcome), reaches c .1)
+  reaches (Called.open-refused {l = l} other c e n) =
+      (Reached.open-refused (settingsOf other) (reaches c .0) (refuses none (opened (settingsOf other) l) e n .outcome), reaches c .1)
+  reaches (Called.load-refused {l = l} other file c e n) =
+      (Reached.load-refused (settingsOf other) file (reaches c .0) (refuses none (loaded (settingsOf other) file l) e n .outcome), reaches c .1)
+  reaches (Called.loads {f = f} {l = l} {c = q} {written = written} out room other same c saves z e y) =
+      let a = accepts none (loaded (settingsOf other) (take (recordWidth * q .buckets) written) room) e y in
+      (Reached.loads out room (settingsOf other) same (reaches c .0) (writes (saveOutcome (stateFrom f) l out) saves z) (a .outcome), a .plain)
 
--- ---- what ndz_lookup shows of it
+-- ---- what ndz_lookup and ndz_worst show of it
 
 -- the error shown is at most the worst
 found-error : (tick : ℕ) (t : Table) → showing (found (holding tick t)) .error ≤ worst t
@@ -194,6 +203,10 @@ unfolding firstDue
 looked f l tick true fit h small = ap (λ (x : ℕ × ℕ). x .0) (exported-demand1 .lookups f l tick .exactly) ∙ rw (fit, lt-leb ticks tick (small refl), h)
 looked f l tick false fit h small = ap (λ (x : ℕ × ℕ). x .0) (exported-demand1 .lookups f l tick .exactly) ∙ by-test (leb ticks tick) (λ g. rw (fit, g)) (λ g. rw (fit, g, h))
 
+worst-of : (f : Fields) (l : List ℤ) → sound (stateFrom f) l ≡ true → worstReply f l ≡ record { refusal = 0; place = 0; error = worst (tableOf (stateFrom f) l) }
+unfolding worstOutcome measured checked erring
+worst-of f l fit = rw fit
+
 -- ---- what ndz_row and ndz_save write of it
 
 wrote-all : {A : Type 0} (form : Table → List A) (width : ℕ) (f : Fields) (l : List ℤ) (out : List A) → ((t : Table) → length (form t) ≡ width * length t) → sound (stateFrom f) l ≡ true → width * f .used ≤ length out
@@ -209,9 +222,9 @@ same-test false false e = refl
 
 -- ---- demands 2 and 3
 
-pub promises : {kind steps gaps : ℕ} {rs : List Reading} {f : Fields} {l : List ℤ} → Called kind steps gaps rs f l → Promised kind steps gaps rs f l
+pub promises : {named : Named} {rs : List Reading} {f : Fields} {l : List ℤ} → Called named rs f l → Promised named rs f l
 unfolding showing replying answer
-promises {kind} {steps} {gaps} {rs} {f} {l} c =
+promises {named} {rs} {f} {l} c =
     let plain : fieldsOf (stateFrom f) ≡ f = reaches c .1 in
     let k = keeps (reaches c .0) in
     let t : Table = tableOf (stateFrom f) l in
@@ -227,11 +240,11 @@ promises {kind} {steps} {gaps} {rs} {f} {l} c =
       readings = k .readings;
       row = λ out long. wrote-all flat slotWidth f l out length-flat (k .fit) long ∙ ap (λ (x : Table). (wroteAll (f .used), flat x ++ drop (slotWidth * f .used) out)) (k .buckets);
       save = λ out long. wrote-all saved recordWidth f l out length-saved (k .fit) long ∙ ap (λ (x : Table). (wroteAll (f .used), saved x ++ drop (recordWidth * f .used) out)) (k .buckets);
-      load = λ n b q room same long.
-          let h : Settings = settingsOf n b q in
+      load = λ other room same long.
+          let h : Settings = settingsOf other in
           let bytes : List ℕ = saved t in
           ap (λ (x : Table). replying none (answer (loaded h (saved x) room .0))) (sym (k .buckets))
-          ∙ ap (λ (x : Verdict State × List ℤ). replying none (answer (x .0))) (loaded-kept (stateFrom f .settings) h bytes room (kept-same h (settingsOf kind steps gaps) same ∙ sym (kept-twice (settingsOf kind steps gaps)) ∙ ap kept (sym (k .named))) ∙ saved-loaded (stateFrom f) l room (k .fit) (subst (λ (x : Settings). slotWidth * needed x ≤ length room) (sym (k .named)) (subst (λ (n : ℕ). slotWidth * n ≤ length room) (sym (needed-is (settingsOf kind steps gaps))) long)))
+          ∙ ap (λ (x : Verdict State × List ℤ). replying none (answer (x .0))) (loaded-kept (stateFrom f .settings) h bytes room (kept-same h (settingsOf named) same ∙ sym (kept-twice (settingsOf named)) ∙ ap kept (sym (k .named))) ∙ saved-loaded (stateFrom f) l room (k .fit) (subst (λ (x : Settings). slotWidth * needed x ≤ length room) (sym (k .named)) (subst (λ (n : ℕ). slotWidth * n ≤ length room) (sym (needed-is (settingsOf named))) long)))
           ∙ ap (λ (x : Fields). record { refusal = 0; place = 0; state = x }) plain;
       picture = λ curve E few near r m.
           let p = k .picture curve E few near in
@@ -241,6 +254,8 @@ promises {kind} {steps} {gaps} {rs} {f} {l} c =
             near = subst (λ (x : Found). distance (r .value) (showing x .level) ≤ E) (sym (seen .answer)) (seen .near);
             error = omega (arith, shown-error f l (r .tick), p .1);
           };
+      worst-told = worst-of f l (k .fit) ∙ ap (λ (x : Table). record { refusal = 0; place = 0; error = worst x }) (k .buckets);
+      worst-within = λ curve E few near. subst (λ (x : Table). worst x ≤ E) (k .buckets) (k .picture curve E few near .1);
       lookups = λ tick b m h. ap showing (k .lookups tick b (subst (List·Memᴰ b) (sym (k .buckets)) m) h);
       covers = λ tick.
           looked f l tick (arrived tick rs) (k .fit)
@@ -251,8 +266,8 @@ promises {kind} {steps} {gaps} {rs} {f} {l} c =
 pub exported-demand2 : ExportedDemand2
 unfolding telling
 exported-demand2 = record {
-  same-bytes = λ kind steps gaps file out l known long z.
-      let h : Settings = settingsOf kind steps gaps in
+  same-bytes = λ named file out l known long z.
+      let h : Settings = settingsOf named in
       let a = accepts none (loaded h file l) {r = replying none (answer (loaded h file l .0))} {m = loaded h file l .1} refl z in
       ap told (loaded-saved h file l (stateFrom (replying none (answer (loaded h file l .0)) .state)) out known (ap (λ (x : Verdict State × List ℤ). x .0) (a .outcome)) long);
 }

@@ -23,6 +23,8 @@ use Rattle.rule.specs.Room.{allOf, signed, sound, tableOf}
 use Rattle.rule.specs.Rules.{firstFault, placeOr, ruled, rules}
 use Rattle.rule.specs.Table.{accept, holding, nextTick, runs}
 use Rattle.row.specs.Parts.{numbersOutcome}
+use Rattle.worst.specs.declared.Measured.{Measured}
+use Rattle.worst.specs.Outcome.{worstOutcome}
 
 -- ---- the table, call by call, in the orders of document 01
 -- Document 01's numbers stand here as it writes them and not by the names that the definitions have for them, so that a wrong number there does not pass.
@@ -92,6 +94,10 @@ lookupRows s l tick =
     ∷ refusing 12 (not (isHeld (holding tick (tableOf s l))))
     ∷ []
 
+-- of the worst error
+abbrev pub worstRows : State → List ℤ → List Row
+worstRows s l = refusing 4 (not (sound s l)) ∷ []
+
 -- of row and save: the output has so many places, and the buckets take so many
 abbrev pub writeRows : State → List ℤ → ℕ → ℕ → List Row
 writeRows s l places taken =
@@ -112,6 +118,10 @@ saidFound (Found.Level level error least largest) = none
 unfoldable pub saidWritten : Written → Option (ℕ × ℕ)
 saidWritten (Written.Refused r) = some (number r, place r)
 saidWritten (Written.Buckets n) = none
+
+unfoldable pub saidMeasured : Measured → Option (ℕ × ℕ)
+saidMeasured (Measured.Refused r) = some (number r, place r)
+saidMeasured (Measured.Error e) = none
 
 -- ---- the record rules
 
@@ -136,6 +146,7 @@ pub record Demand1 : Type 0 where
   pub nexts : (s : State) (l : List ℤ) (v : ℤ) → let o = nextOutcome s l v in Answered (said (o .0)) (nextRows s l) l (o .1)
   pub lates : (s : State) (l : List ℤ) (tick : ℕ) (v : ℤ) → let o = lateOutcome s l tick v in Answered (said (o .0)) (lateRows s l tick v) l (o .1)
   pub lookups : (s : State) (l : List ℤ) (tick : ℕ) → saidFound (lookupOutcome s l tick) ≡ firstOf (lookupRows s l tick)
+  pub worsts : (s : State) (l : List ℤ) → saidMeasured (worstOutcome s l) ≡ firstOf (worstRows s l)
   pub rows : (s : State) (l : List ℤ) (out : List Bucket) → let o = rowOutcome s l out in Answered (saidWritten (o .0)) (writeRows s l (length out) (s .used)) out (o .1)
   -- the row in numbers, four to a bucket
   pub numbers : (s : State) (l : List ℤ) (out : List ℤ) → let o = numbersOutcome s l out in Answered (saidWritten (o .0)) (writeRows s l (length out) (4 * s .used)) out (o .1)

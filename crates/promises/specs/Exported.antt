@@ -14,7 +14,7 @@ use Rattle.rule.specs.Bytes.{saved}
 use Rattle.rule.specs.Calls.{kept, late}
 use Rattle.rule.specs.Files.{FirstBroken}
 use Rattle.rule.specs.Room.{flat, signed, sound}
-use Rattle.rule.specs.Table.{Table, holds}
+use Rattle.rule.specs.Table.{Table, holds, worst}
 use Rattle.saved.specs.Bytes.{AllBytes}
 use Rattle.demands.specs.Curve as curve
 use Rattle.demands.specs.Curve.{Curve}
@@ -22,10 +22,12 @@ use Rattle.demands.specs.History.{Reading, arrived, runsOf, tableAfter}
 use Rattle.demands.specs.Served.{Near}
 use Rattle.ndezulangi.specs.declared.Counted.{Counted}
 use Rattle.ndezulangi.specs.declared.Fields.{Fields}
+use Rattle.ndezulangi.specs.declared.Named.{Named}
 use Rattle.ndezulangi.specs.declared.Reply.{Reply}
 use Rattle.ndezulangi.specs.declared.Shown.{Shown}
-use Rattle.ndezulangi.specs.Plain.{fieldsOf, kindOf, lateReply, loadReply, lookupReply, nextReply, none, numberOf, openReply, rowReply, saveReply, settingsOf, stateFrom}
-use Rattle.promises.specs.Answered.{Row, fileRows, lateRows, lookupRows, mostSteps, nextRows, openRows, slotsNeeded, writeRows}
+use Rattle.ndezulangi.specs.declared.WorstError.{WorstError}
+use Rattle.ndezulangi.specs.Plain.{fieldsOf, kindOf, lateReply, loadReply, lookupReply, nextReply, none, numberOf, openReply, rowReply, saveReply, settingsOf, stateFrom, worstReply}
+use Rattle.promises.specs.Answered.{Row, fileRows, lateRows, lookupRows, mostSteps, nextRows, openRows, slotsNeeded, worstRows, writeRows}
 use Rattle.promises.specs.Demands.{Upheld}
 use Rattle.promises.specs.Reached.{SameSettings}
 
@@ -46,6 +48,11 @@ pub record Shows (rows : List Row) (s : Shown) : Type 0 where
   pub exactly : (s .refusal, s .place) ≡ firstDue rows
   pub zeros : s .refusal ≢ 0 → s ≡ record { refusal = s .refusal; place = s .place; level = pos 0; error = 0; least = pos 0; largest = pos 0 }
 
+-- of the worst error, which writes nothing; refused, it is 0
+pub record Errs (rows : List Row) (w : WorstError) : Type 0 where
+  pub exactly : (w .refusal, w .place) ≡ firstDue rows
+  pub none-told : w .refusal ≢ 0 → w .error ≡ 0
+
 -- of row and save; refused, no bucket is told, and the output is as it was
 pub record Counts {A : Type 0} (rows : List Row) (before after : List A) (c : Counted) : Type 0 where
   pub exactly : (c .refusal, c .place) ≡ firstDue rows
@@ -53,48 +60,49 @@ pub record Counts {A : Type 0} (rows : List Row) (before after : List A) (c : Co
 
 -- of each function, for any numbers and bytes: open and load hand back zeros where they are refused, the two readings the state that was given
 pub record ExportedDemand1 : Type 0 where
-  pub opens : (kind steps gaps : ℕ) (l : List ℤ) → let o = openReply kind steps gaps l in Replies (openRows (settingsOf kind steps gaps) l) none l (o .1) (o .0)
+  pub opens : (named : Named) (l : List ℤ) → let o = openReply named l in Replies (openRows (settingsOf named) l) none l (o .1) (o .0)
   pub nexts : (f : Fields) (l : List ℤ) (v : ℤ) → let o = nextReply f l v in Replies (nextRows (stateFrom f) l) f l (o .1) (o .0)
   pub lates : (f : Fields) (l : List ℤ) (tick : ℕ) (v : ℤ) → let o = lateReply f l tick v in Replies (lateRows (stateFrom f) l tick v) f l (o .1) (o .0)
   pub lookups : (f : Fields) (l : List ℤ) (tick : ℕ) → Shows (lookupRows (stateFrom f) l tick) (lookupReply f l tick)
+  pub worsts : (f : Fields) (l : List ℤ) → Errs (worstRows (stateFrom f) l) (worstReply f l)
   -- four numbers a bucket
   pub rows : (f : Fields) (l : List ℤ) (out : List ℤ) → let o = rowReply f l out in Counts (writeRows (stateFrom f) l (length out) (4 * f .used)) out (o .1) (o .0)
   -- sixteen bytes a bucket
   pub saves : (f : Fields) (l : List ℤ) (out : List ℕ) → let o = saveReply f l out in Counts (writeRows (stateFrom f) l (length out) (16 * f .used)) out (o .1) (o .0)
-  pub loads : (kind steps gaps : ℕ) (file : List ℕ) (l : List ℤ) → let o = loadReply kind steps gaps file l in
-      Replies (openRows (settingsOf kind steps gaps) l ++ fileRows (settingsOf kind steps gaps) file) none l (o .1) (o .0)
+  pub loads : (named : Named) (file : List ℕ) (l : List ℤ) → let o = loadReply named file l in
+      Replies (openRows (settingsOf named) l ++ fileRows (settingsOf named) file) none l (o .1) (o .0)
   -- 8: the record at its place is the file's, it breaks a rule, and all before it meet them
-  pub places : (kind steps gaps : ℕ) (file : List ℕ) (l : List ℤ) → let r = loadReply kind steps gaps file l .0 in r .refusal ≡ 8 → FirstBroken (kindOf kind) file (r .place)
+  pub places : (named : Named) (file : List ℕ) (l : List ℤ) → let r = loadReply named file l .0 in r .refusal ≡ 8 → FirstBroken (kindOf (named .kind)) file (r .place)
   -- kind 0 is in order, any other late
   pub kinds : (kindOf 0 ≡ InOrder) × ((n : ℕ) → kindOf (suc n) ≡ Late)
   -- the zeros that a refused open or load hands back are sound in no room, so no call accepts them
   pub unsound : (l : List ℤ) → sound (stateFrom none) l ≡ false
   pub unusable : (l : List ℤ) (tick : ℕ) (v : ℤ) (out : List ℤ) (bytes : List ℕ)
-      → nextReply none l v .0 .refusal ∷ lateReply none l tick v .0 .refusal ∷ lookupReply none l tick .refusal ∷ rowReply none l out .0 .refusal ∷ saveReply none l bytes .0 .refusal ∷ []
-      ≡ 4 ∷ 4 ∷ 4 ∷ 4 ∷ 4 ∷ []
+      → nextReply none l v .0 .refusal ∷ lateReply none l tick v .0 .refusal ∷ lookupReply none l tick .refusal ∷ worstReply none l .refusal ∷ rowReply none l out .0 .refusal ∷ saveReply none l bytes .0 .refusal ∷ []
+      ≡ 4 ∷ 4 ∷ 4 ∷ 4 ∷ 4 ∷ 4 ∷ []
 
 -- ---- demands 2 and 3
 
--- What a caller can reach from ndz_open with the numbers kind, steps and gaps, each call getting the state and the room as the last one left them:
--- the caller has the state f, and the room holds l, after the accepted readings rs, newest first. Lookup, row and save write neither.
-pub data Called (kind steps gaps : ℕ) : List Reading → Fields → List ℤ → Type 0 where
+-- What a caller can reach from ndz_open with the settings named, each call getting the state and the room as the last one left them:
+-- the caller has the state f, and the room holds l, after the accepted readings rs, newest first. Lookup, worst, row and save write neither.
+pub data Called (named : Named) : List Reading → Fields → List ℤ → Type 0 where
   -- opened empty, in any room
-  opens : {r : Reply} {m : List ℤ} (l : List ℤ) → openReply kind steps gaps l ≡ (r, m) → r .refusal ≡ 0 → Called kind steps gaps [] (r .state) m
+  opens : {r : Reply} {m : List ℤ} (l : List ℤ) → openReply named l ≡ (r, m) → r .refusal ≡ 0 → Called named [] (r .state) m
   -- an accepted reading, any signed 32-bit number: in order they take the ticks 0, 1, 2 and so on
-  nexts : {rs : List Reading} {f : Fields} {l m : List ℤ} {r : Reply} (v : ℤ) → signed v ≡ true → Called kind steps gaps rs f l → nextReply f l v ≡ (r, m) → r .refusal ≡ 0
-      → Called kind steps gaps (record { tick = length rs; value = v } ∷ rs) (r .state) m
-  lates : {rs : List Reading} {f : Fields} {l m : List ℤ} {r : Reply} (tick : ℕ) (v : ℤ) → signed v ≡ true → Called kind steps gaps rs f l → lateReply f l tick v ≡ (r, m) → r .refusal ≡ 0
-      → Called kind steps gaps (record { tick = tick; value = v } ∷ rs) (r .state) m
+  nexts : {rs : List Reading} {f : Fields} {l m : List ℤ} {r : Reply} (v : ℤ) → signed v ≡ true → Called named rs f l → nextReply f l v ≡ (r, m) → r .refusal ≡ 0
+      → Called named (record { tick = length rs; value = v } ∷ rs) (r .state) m
+  lates : {rs : List Reading} {f : Fields} {l m : List ℤ} {r : Reply} (tick : ℕ) (v : ℤ) → signed v ≡ true → Called named rs f l → lateReply f l tick v ≡ (r, m) → r .refusal ≡ 0
+      → Called named (record { tick = tick; value = v } ∷ rs) (r .state) m
   -- a refused reading: the caller goes on with the state that it handed back
-  next-refused : {rs : List Reading} {f : Fields} {l m : List ℤ} {r : Reply} (v : ℤ) → Called kind steps gaps rs f l → nextReply f l v ≡ (r, m) → r .refusal ≢ 0 → Called kind steps gaps rs (r .state) m
-  late-refused : {rs : List Reading} {f : Fields} {l m : List ℤ} {r : Reply} (tick : ℕ) (v : ℤ) → Called kind steps gaps rs f l → lateReply f l tick v ≡ (r, m) → r .refusal ≢ 0 → Called kind steps gaps rs (r .state) m
-  -- a refused open or load, by any numbers and bytes, lent the room that holds the trace: the caller goes on with the state of before
-  open-refused : {rs : List Reading} {f : Fields} {l m : List ℤ} {r : Reply} (k b g : ℕ) → Called kind steps gaps rs f l → openReply k b g l ≡ (r, m) → r .refusal ≢ 0 → Called kind steps gaps rs f m
-  load-refused : {rs : List Reading} {f : Fields} {l m : List ℤ} {r : Reply} (k b g : ℕ) (file : List ℕ) → Called kind steps gaps rs f l → loadReply k b g file l ≡ (r, m) → r .refusal ≢ 0 → Called kind steps gaps rs f m
-  -- saved into any output, and the bytes that were written loaded into any room by the same numbers: late any kind but 0 is the same, and in order any gaps
-  loads : {rs : List Reading} {f : Fields} {l m : List ℤ} {c : Counted} {written : List ℕ} {r : Reply} (out : List ℕ) (room : List ℤ) (k b g : ℕ)
-      → SameSettings (settingsOf k b g) (settingsOf kind steps gaps) → Called kind steps gaps rs f l → saveReply f l out ≡ (c, written) → c .refusal ≡ 0
-      → loadReply k b g (take (16 * c .buckets) written) room ≡ (r, m) → r .refusal ≡ 0 → Called kind steps gaps rs (r .state) m
+  next-refused : {rs : List Reading} {f : Fields} {l m : List ℤ} {r : Reply} (v : ℤ) → Called named rs f l → nextReply f l v ≡ (r, m) → r .refusal ≢ 0 → Called named rs (r .state) m
+  late-refused : {rs : List Reading} {f : Fields} {l m : List ℤ} {r : Reply} (tick : ℕ) (v : ℤ) → Called named rs f l → lateReply f l tick v ≡ (r, m) → r .refusal ≢ 0 → Called named rs (r .state) m
+  -- a refused open or load, by any settings and bytes, lent the room that holds the trace: the caller goes on with the state of before
+  open-refused : {rs : List Reading} {f : Fields} {l m : List ℤ} {r : Reply} (other : Named) → Called named rs f l → openReply other l ≡ (r, m) → r .refusal ≢ 0 → Called named rs f m
+  load-refused : {rs : List Reading} {f : Fields} {l m : List ℤ} {r : Reply} (other : Named) (file : List ℕ) → Called named rs f l → loadReply other file l ≡ (r, m) → r .refusal ≢ 0 → Called named rs f m
+  -- saved into any output, and the bytes that were written loaded into any room by the same settings: late any kind but 0 is the same, and in order any gaps
+  loads : {rs : List Reading} {f : Fields} {l m : List ℤ} {c : Counted} {written : List ℕ} {r : Reply} (out : List ℕ) (room : List ℤ) (other : Named)
+      → SameSettings (settingsOf other) (settingsOf named) → Called named rs f l → saveReply f l out ≡ (c, written) → c .refusal ≡ 0
+      → loadReply other (take (16 * c .buckets) written) room ≡ (r, m) → r .refusal ≡ 0 → Called named rs (r .state) m
 
 -- ndz_lookup at the reading's tick is not refused: its level is within E of the reading, and its error is at most E
 pub record Within (E : ℕ) (f : Fields) (l : List ℤ) (r : Reading) : Type 0 where
@@ -103,42 +111,45 @@ pub record Within (E : ℕ) (f : Fields) (l : List ℤ) (r : Reading) : Type 0 w
   pub error : lookupReply f l (r .tick) .error ≤ E
 
 -- the buckets of the rule applied to the accepted readings
-abbrev pub bucketsOf : ℕ → ℕ → ℕ → List Reading → Table
-bucketsOf kind steps gaps rs = tableAfter (kept (settingsOf kind steps gaps)) rs
+abbrev pub bucketsOf : Named → List Reading → Table
+bucketsOf named rs = tableAfter (kept (settingsOf named)) rs
 
 -- not refused: so many buckets were written
 abbrev pub wroteAll : ℕ → Counted
 wroteAll n = record { refusal = 0; place = 0; buckets = n }
 
--- of a trace opened with the numbers kind, steps and gaps
-pub record Promised (kind steps gaps : ℕ) (rs : List Reading) (f : Fields) (l : List ℤ) : Type 0 where
+-- of a trace opened with the settings named
+pub record Promised (named : Named) (rs : List Reading) (f : Fields) (l : List ℤ) : Type 0 where
   -- demands 2 and 3, as the calls keep them, of the state with these fields
-  pub keeps : Upheld (settingsOf kind steps gaps) rs (stateFrom f) l
+  pub keeps : Upheld (settingsOf named) rs (stateFrom f) l
   -- the fields are that state's, and say nothing else
   pub plain : fieldsOf (stateFrom f) ≡ f
-  -- the numbers named at the opening: a late kind is 1, and in order K is kept as 0
-  pub kind-named : f .kind ≡ numberOf (kindOf kind)
-  pub steps-named : f .steps ≡ steps
-  pub gaps-named : f .gaps ≡ cond (late (kindOf kind)) gaps 0
+  -- the settings named at the opening: a late kind is 1, and in order K is kept as 0
+  pub kind-named : f .kind ≡ numberOf (kindOf (named .kind))
+  pub steps-named : f .steps ≡ named .steps
+  pub gaps-named : f .gaps ≡ cond (late (kindOf (named .kind))) (named .gaps) 0
   -- at most 2B steps, late one more for each unbroken run
-  pub size : f .used ≤ mostSteps (settingsOf kind steps gaps) (runsOf rs)
+  pub size : f .used ≤ mostSteps (settingsOf named) (runsOf rs)
   pub runs : f .runs ≡ runsOf rs
   pub readings : f .readings ≡ length rs
   -- demand 2: ndz_row and ndz_save write the buckets of the rule, where the output is long enough, and nothing behind them
-  pub row : (out : List ℤ) → 4 * f .used ≤ length out → rowReply f l out ≡ (wroteAll (f .used), flat (bucketsOf kind steps gaps rs) ++ drop (4 * f .used) out)
-  pub save : (out : List ℕ) → 16 * f .used ≤ length out → saveReply f l out ≡ (wroteAll (f .used), saved (bucketsOf kind steps gaps rs) ++ drop (16 * f .used) out)
-  -- and ndz_load of these bytes by the same numbers, into any room that is long enough, hands back the same state
-  pub load : (k b g : ℕ) (room : List ℤ) → SameSettings (settingsOf k b g) (settingsOf kind steps gaps) → 4 * slotsNeeded (settingsOf kind steps gaps) ≤ length room
-      → loadReply k b g (saved (bucketsOf kind steps gaps rs)) room .0 ≡ record { refusal = 0; place = 0; state = f }
+  pub row : (out : List ℤ) → 4 * f .used ≤ length out → rowReply f l out ≡ (wroteAll (f .used), flat (bucketsOf named rs) ++ drop (4 * f .used) out)
+  pub save : (out : List ℕ) → 16 * f .used ≤ length out → saveReply f l out ≡ (wroteAll (f .used), saved (bucketsOf named rs) ++ drop (16 * f .used) out)
+  -- and ndz_load of these bytes by the same settings, into any room that is long enough, hands back the same state
+  pub load : (other : Named) (room : List ℤ) → SameSettings (settingsOf other) (settingsOf named) → 4 * slotsNeeded (settingsOf named) ≤ length room
+      → loadReply other (saved (bucketsOf named rs)) room .0 ≡ record { refusal = 0; place = 0; state = f }
   -- demand 3: against every curve of at most as many flat steps as named, by ndz_lookup itself
-  pub picture : (c : Curve) (E : ℕ) → curve.steps c ≤ steps → Near E c rs → (r : Reading) → List·Memᴰ r rs → Within E f l r
-  -- which shows, at each tick, the level, error, least and largest of the bucket that holds it
-  pub lookups : (tick : ℕ) (b : Bucket) → List·Memᴰ b (bucketsOf kind steps gaps rs) → holds tick b ≡ true
+  pub picture : (c : Curve) (E : ℕ) → curve.steps c ≤ named .steps → Near E c rs → (r : Reading) → List·Memᴰ r rs → Within E f l r
+  -- and by ndz_worst, which tells the greatest error of the buckets of the rule
+  pub worst-told : worstReply f l ≡ record { refusal = 0; place = 0; error = worst (bucketsOf named rs) }
+  pub worst-within : (c : Curve) (E : ℕ) → curve.steps c ≤ named .steps → Near E c rs → worst (bucketsOf named rs) ≤ E
+  -- ndz_lookup shows, at each tick, the level, error, least and largest of the bucket that holds it
+  pub lookups : (tick : ℕ) (b : Bucket) → List·Memᴰ b (bucketsOf named rs) → holds tick b ≡ true
       → lookupReply f l tick ≡ record { refusal = 0; place = 0; level = level b; error = error b; least = b .least; largest = b .largest }
   -- ndz_lookup shows exactly the ticks of the accepted readings: any other is refused, above the last tick by 6 and else by 12
   pub covers : (tick : ℕ) → lookupReply f l tick .refusal ≡ cond (arrived tick rs) 0 (cond (leb 16777216 tick) 6 12)
 
 -- demand 2 of bytes from anywhere: what ndz_load accepts, ndz_save writes, and nothing behind it
 pub record ExportedDemand2 : Type 0 where
-  pub same-bytes : (kind steps gaps : ℕ) (file out : List ℕ) (l : List ℤ) → AllBytes file → length file ≤ length out → let o = loadReply kind steps gaps file l in o .0 .refusal ≡ 0
+  pub same-bytes : (named : Named) (file out : List ℕ) (l : List ℤ) → AllBytes file → length file ≤ length out → let o = loadReply named file l in o .0 .refusal ≡ 0
       → saveReply (o .0 .state) (o .1) out ≡ (wroteAll (length file / 16), file ++ drop (length file) out)

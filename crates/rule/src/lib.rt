@@ -16,6 +16,7 @@ pub const RECORD: usize = 16;
 pub const WORD: i64 = 4294967296;
 
 // A start tick, a count of ticks, and the least and largest reading among exactly those ticks.
+#[repr(C)]
 pub struct Bucket {
     pub start: u32,
     pub count: u32,

@@ -23,8 +23,8 @@ rows-requires c κs =
     let start = c .before .before .before in
     (in-use start, omega (arith, start .pre .room))
 
-worst-requires : tie.Need-worst-requires
-worst-requires c κs = in-use (c .before .before .before .before .before .before .before)
+greatest-error-requires : tie.Need-greatest-error-requires
+greatest-error-requires c κs = in-use (c .before .before .before .before .before .before .before)
 
 put-total-requires : tie.Need-put-total-requires
 put-total-requires c κs =
@@ -41,8 +41,8 @@ returns c =
     let worst = c .before .before .before in
     let rows = worst .before .before .before .before in
     let start = rows .before .before .before .before in
-    rw (sym (facts start .true-readings), length-slots (start .args .room .now) 0 (start .args .t .state .used), sym (worst .worst .ensures)) (then (rows .rows .ensures) (c .before .before .put-total .ensures))
+    rw (sym (facts start .true-readings), length-slots (start .args .room .now) 0 (start .args .t .state .used), sym (worst .greatest-error .ensures)) (then (rows .rows .ensures) (c .before .before .put-total .ensures))
 
 pub listed-spec : {M : Type 1} → statement M
 listed-spec =
-    tie.close (tie.spec rows-requires worst-requires put-total-requires same-length returns)
+    tie.close (tie.spec rows-requires greatest-error-requires put-total-requires same-length returns)

@@ -1,4 +1,4 @@
--- `listing::show::worst` meets its contract: the worst error so far and that of the slots that are left make the whole.
+-- `worst::greatest_error` meets its contract: the worst error so far and that of the slots that are left make the whole.
 use Prim.Native.Nat.{_-_, max}
 use mathlib.Core.Path.{_≡_}
 use mathlib.Core.Logic.{⊎-elim}
@@ -7,9 +7,9 @@ use borrow.Author.Needs.{needs}
 use Rattle.rule.specs.Bucket.{error}
 use Rattle.rule.specs.Room.{slot}
 use Rattle.slots.proofs.Reading.{filled}
-use Rattle.listing.proofs.Showing.{Found, found-end, found-next, found-start}
-use Rattle.listing.proofs.show.worst.Statement.{statement}
-use Rattle.listing.proofs.show.worst.Tie as tie
+use Rattle.worst.proofs.Looking.{Found, found-end, found-next, found-start}
+use Rattle.worst.proofs.greatest_error.Statement.{statement}
+use Rattle.worst.proofs.greatest_error.Tie as tie
 
 abbrev Inv-loop : tie.InvT-loop
 Inv-loop room used most₀ i₀ most i = Found room used most i
@@ -45,8 +45,8 @@ loop-again c =
 returns : tie.Need-returns Inv-loop μ-loop
 returns c = found-end (c .before .before .args .room .now) (c .before .before .args .used) (c .before .loop .inv) (omega arith)
 
-pub worst-spec : {M : Type 1} → statement M
-worst-spec =
+pub greatest-error-spec : {M : Type 1} → statement M
+greatest-error-spec =
     tie.close
     (tie.spec
     Inv-loop

@@ -1,0 +1,2 @@
+-- What the worst error of a trace answers.
+pub mod Outcome

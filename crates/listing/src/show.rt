@@ -36,7 +36,13 @@ fn listed(t: Trace, room: &[i64], out: &mut [u8]) -> usize
 {
     let s = t.state;
     let at = rows(room, s.used, &mut *out);
-    put_total(&mut *out, at, s.readings, s.used, greatest_error(room, s.used))
+    put_total(
+        &mut *out,
+        at,
+        s.readings,
+        s.used,
+        greatest_error(room, s.used),
+    )
 }
 
 // What is written, and how many bytes it has.

@@ -8,17 +8,14 @@ use Rattle.listing.specs.declared.Stage.{Stage}
 use Rattle.listing.proofs.feed.begin.Statement.{statement}
 use Rattle.listing.proofs.feed.begin.Tie as tie
 
-in-order-requires : tie.Need-in-order-requires
-in-order-requires c κs = search needs
-
-open-requires : tie.Need-open-requires
-open-requires c κs = search needs
-
-same-length : tie.Need-same-length
-same-length c = search needs
-
 returns : tie.Need-returns
 returns c = rw (c .before .before .before .in-order .ensures) at (ap {B = Feeding × List ℤ} (λ o. (record { last = o .0; stage = Stage.Nothing; lines = 0; filled = 0 }, o .1)) (c .before .«open» .ensures))
 
 pub begin-spec : {M : Type 1} → statement M
-begin-spec = tie.close (tie.spec in-order-requires open-requires same-length returns)
+begin-spec =
+    tie.close
+    (tie.spec
+    (λ c κs. search needs)  -- in-order-requires
+    (λ c κs. search needs)  -- open-requires
+    (λ c. search needs)  -- same-length
+    returns)

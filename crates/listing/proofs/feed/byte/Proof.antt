@@ -8,24 +8,9 @@ use Rattle.listing.specs.Feeding.{Reader, byteFed}
 use Rattle.listing.proofs.feed.byte.Statement.{statement}
 use Rattle.listing.proofs.feed.byte.Tie as tie
 
-enum-known-last : tie.Need-enum-known-last
-enum-known-last c = search needs
-
-enum-told : tie.Need-enum-told
-enum-told c = search needs
-
 returns : tie.Need-returns
 unfolding byteFed
 returns c = rw (c .enum-told .given .1)
-
-line-ended-requires : tie.Need-line-ended-requires
-line-ended-requires c κs = search needs
-
-same-length : tie.Need-same-length
-same-length c = search needs
-
-same-length-2 : tie.Need-same-length-2
-same-length-2 c = search needs
 
 returns-2 : tie.Need-returns-2
 unfolding byteFed
@@ -34,23 +19,11 @@ returns-2 c =
     rw (eq-eqb (a .b) lineFeed (c .before .before .before .before .if1 .taken)) (ap {B = Reader} (λ o. (o .0, (o .1, a .line .now))) (c .before .line-ended .ensures))
     ∙ sym (ap (λ x. byteFed x (a .f) (a .room .now) (a .line .now) (a .b)) (c .before .before .before .before .before .before .last .given .1))
 
-slice-write-line : tie.Need-slice-write-line
-slice-write-line c = search needs
-
-add-t16 : tie.Need-add-t16
-add-t16 c = search needs
-
-same-length-3 : tie.Need-same-length-3
-same-length-3 c = search needs
-
 returns-3 : tie.Need-returns-3
 unfolding byteFed
 returns-3 c =
     let a = c .before .before .before .before .before .before .args in
     rw (c .before .before .before .last .given .1, ne-eqb (a .b) lineFeed (c .before .if1 .left), lt-ltb (a .f .filled) (length (a .line .now)) (c .if2 .taken))
-
-too-long-requires : tie.Need-too-long-requires
-too-long-requires c κs = search needs
 
 returns-4 : tie.Need-returns-4
 unfolding byteFed
@@ -62,16 +35,16 @@ pub byte-spec : {M : Type 1} → statement M
 byte-spec =
     tie.close
     (tie.spec
-    enum-known-last
-    enum-told
+    (λ c. search needs)  -- enum-known-last
+    (λ c. search needs)  -- enum-told
     returns
-    line-ended-requires
-    same-length
-    same-length-2
+    (λ c κs. search needs)  -- line-ended-requires
+    (λ c. search needs)  -- same-length
+    (λ c. search needs)  -- same-length-2
     returns-2
-    slice-write-line
-    add-t16
-    same-length-3
+    (λ c. search needs)  -- slice-write-line
+    (λ c. search needs)  -- add-t16
+    (λ c. search needs)  -- same-length-3
     returns-3
-    too-long-requires
+    (λ c κs. search needs)  -- too-long-requires
     returns-4)

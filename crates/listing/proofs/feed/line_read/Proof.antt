@@ -9,21 +9,6 @@ use Rattle.listing.specs.Listing.{stageAfter}
 use Rattle.listing.proofs.feed.line_read.Statement.{statement}
 use Rattle.listing.proofs.feed.line_read.Tie as tie
 
-parse-line-requires : tie.Need-parse-line-requires
-parse-line-requires c κs = search needs
-
-obey-requires : tie.Need-obey-requires
-obey-requires c κs = search needs
-
-stage-after-requires : tie.Need-stage-after-requires
-stage-after-requires c κs = search needs
-
-answered-requires : tie.Need-answered-requires
-answered-requires c κs = search needs
-
-same-length : tie.Need-same-length
-same-length c = search needs
-
 returns : tie.Need-returns
 unfolding lineFed
 returns c =
@@ -35,9 +20,9 @@ pub line-read-spec : {M : Type 1} → statement M
 line-read-spec =
     tie.close
     (tie.spec
-    parse-line-requires
-    obey-requires
-    stage-after-requires
-    answered-requires
-    same-length
+    (λ c κs. search needs)  -- parse-line-requires
+    (λ c κs. search needs)  -- obey-requires
+    (λ c κs. search needs)  -- stage-after-requires
+    (λ c κs. search needs)  -- answered-requires
+    (λ c. search needs)  -- same-length
     returns)

@@ -17,32 +17,11 @@ Inv-loop room₀ line₀ bytes state₀ i₀ room line state i =
 abbrev μ-loop : tie.MeasureT-loop
 μ-loop room₀ line₀ bytes state₀ i₀ room line state i = length bytes - i
 
-loop-holds : tie.Need-loop-holds Inv-loop μ-loop
-loop-holds c = search needs
-
-shared-slice-read-byte : tie.Need-shared-slice-read-byte Inv-loop μ-loop
-shared-slice-read-byte c = search needs
-
-byte-requires : tie.Need-byte-requires Inv-loop μ-loop
-byte-requires c κs = search needs
-
-add-i : tie.Need-add-i Inv-loop μ-loop
-add-i c = search needs
-
-loop-less : tie.Need-loop-less Inv-loop μ-loop
-loop-less c = search needs
-
 loop-again : tie.Need-loop-again Inv-loop μ-loop
 loop-again c =
     let a = c .before .before .before .before .before .before .before .before .before .before .before .args in
     let l = c .before .before .before .before .before .before .before .before .loop in
     (omega arith, (omega arith, (omega arith, ap (λ x. fed x (drop (l .i + 1) (a .bytes .now))) (c .before .before .before .byte .ensures) ∙ sym (fed-next (l .state, (l .room, l .line)) (a .bytes .now) (l .i) (c .before .before .before .before .before .before .before .loop-test .taken)) ∙ l .inv .1 .1 .1)))
-
-same-length : tie.Need-same-length Inv-loop μ-loop
-same-length c = search needs
-
-same-length-2 : tie.Need-same-length-2 Inv-loop μ-loop
-same-length-2 c = search needs
 
 returns : tie.Need-returns Inv-loop μ-loop
 unfolding fed
@@ -57,12 +36,12 @@ piece-spec =
     (tie.spec
     Inv-loop
     μ-loop
-    loop-holds
-    shared-slice-read-byte
-    byte-requires
-    add-i
-    loop-less
+    (λ c. search needs)  -- loop-holds
+    (λ c. search needs)  -- shared-slice-read-byte
+    (λ c κs. search needs)  -- byte-requires
+    (λ c. search needs)  -- add-i
+    (λ c. search needs)  -- loop-less
     loop-again
-    same-length
-    same-length-2
+    (λ c. search needs)  -- same-length
+    (λ c. search needs)  -- same-length-2
     returns)

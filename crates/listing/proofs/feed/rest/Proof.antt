@@ -6,12 +6,6 @@ use Rattle.listing.specs.Feeding.{restFed}
 use Rattle.listing.proofs.feed.rest.Statement.{statement}
 use Rattle.listing.proofs.feed.rest.Tie as tie
 
-enum-known-last : tie.Need-enum-known-last
-enum-known-last c = search needs
-
-enum-told : tie.Need-enum-told
-enum-told c = search needs
-
 returns : tie.Need-returns
 unfolding restFed
 returns c = rw (c .enum-told .given .1)
@@ -19,12 +13,6 @@ returns c = rw (c .enum-told .given .1)
 returns-2 : tie.Need-returns-2
 unfolding restFed
 returns-2 c = rw (c .before .before .before .last .given .1, c .if1 .taken)
-
-line-ended-requires : tie.Need-line-ended-requires
-line-ended-requires c κs = search needs
-
-same-length : tie.Need-same-length
-same-length c = search needs
 
 returns-3 : tie.Need-returns-3
 unfolding restFed
@@ -36,10 +24,10 @@ pub rest-spec : {M : Type 1} → statement M
 rest-spec =
     tie.close
     (tie.spec
-    enum-known-last
-    enum-told
+    (λ c. search needs)  -- enum-known-last
+    (λ c. search needs)  -- enum-told
     returns
     returns-2
-    line-ended-requires
-    same-length
+    (λ c κs. search needs)  -- line-ended-requires
+    (λ c. search needs)  -- same-length
     returns-3)

@@ -23,17 +23,11 @@ rows-requires c κs =
     let start = c .before .before .before in
     (in-use start, omega (arith, start .pre .room))
 
-greatest-error-requires : tie.Need-greatest-error-requires
-greatest-error-requires c κs = in-use (c .before .before .before .before .before .before .before)
-
 put-total-requires : tie.Need-put-total-requires
 put-total-requires c κs =
     let start = c .before .before .before .before .before .before .before .before in
     let used = start .args .t .state .used in
     room-left (lineRoom * used) lineRoom (rows-short (in-use start) used (omega arith)) (omega (arith, start .pre .room)) (c .before .before .before .before .rows .ensures)
-
-same-length : tie.Need-same-length
-same-length c = search needs
 
 returns : tie.Need-returns
 unfolding listing
@@ -45,4 +39,10 @@ returns c =
 
 pub listed-spec : {M : Type 1} → statement M
 listed-spec =
-    tie.close (tie.spec rows-requires greatest-error-requires put-total-requires same-length returns)
+    tie.close
+    (tie.spec
+    rows-requires
+    (λ c κs. in-use (c .before .before .before .before .before .before .before))  -- greatest-error-requires
+    put-total-requires
+    (λ c. search needs)  -- same-length
+    returns)

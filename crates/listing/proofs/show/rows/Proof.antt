@@ -23,20 +23,11 @@ loop-holds : tie.Need-loop-holds Inv-loop μ-loop
 unfolding rows slots
 loop-holds c = (omega arith, record { next = refl; bytes = refl; inside = omega arith })
 
-read-requires : tie.Need-read-requires Inv-loop μ-loop
-read-requires c κs = filled (c .before .before .before .before .pre .0) (c .before .before .loop .done) (omega arith)
-
 put-row-requires : tie.Need-put-row-requires Inv-loop μ-loop
 put-row-requires c κs =
     let start = c .before .before .before .before .before in
     let loop = c .before .before .before .loop in
     room-left (lineRoom * loop .done) lineRoom (rows-short (start .pre .0) (loop .done) (loop .inv .0)) (omega (arith, start .pre .1)) (loop .inv .1)
-
-add-done : tie.Need-add-done Inv-loop μ-loop
-add-done c = omega arith
-
-loop-less : tie.Need-loop-less Inv-loop μ-loop
-loop-less c = omega arith
 
 loop-again : tie.Need-loop-again Inv-loop μ-loop
 loop-again c =
@@ -62,10 +53,10 @@ rows-spec =
     Inv-loop
     μ-loop
     loop-holds
-    read-requires
+    (λ c κs. filled (c .before .before .before .before .pre .0) (c .before .before .loop .done) (omega arith))  -- read-requires
     put-row-requires
-    add-done
-    loop-less
+    (λ c. omega arith)  -- add-done
+    (λ c. omega arith)  -- loop-less
     loop-again
     same-length
     returns)

@@ -6,32 +6,17 @@ use Rattle.listing.specs.Feeding.{Showable}
 use Rattle.listing.proofs.show.show.Statement.{statement}
 use Rattle.listing.proofs.show.show.Tie as tie
 
-enum-known-last : tie.Need-enum-known-last
-enum-known-last c = search needs
-
 listed-requires : tie.Need-listed-requires
 unfolding Showable
 listed-requires c κs = rw (c .before .before .last .given .1) at (c .before .before .before .before .before .pre)
-
-enum-known-last-2 : tie.Need-enum-known-last-2
-enum-known-last-2 c = search needs
-
-number-requires : tie.Need-number-requires
-number-requires c κs = search needs
 
 put-refused-requires : tie.Need-put-refused-requires
 unfolding Showable
 put-refused-requires c κs = rw (c .before .before .before .last2 .given .1) at (c .before .before .before .before .before .before .pre)
 
-same-length : tie.Need-same-length
-same-length c = search needs
-
 returns : tie.Need-returns
 unfolding shown
 returns c = rw (c .before .before .before .before .before .last .given .1) (c .before .before .listed .ensures)
-
-same-length-2 : tie.Need-same-length-2
-same-length-2 c = search needs
 
 returns-2 : tie.Need-returns-2
 unfolding shown
@@ -41,12 +26,12 @@ pub show-spec : {M : Type 1} → statement M
 show-spec =
     tie.close
     (tie.spec
-    enum-known-last
+    (λ c. search needs)  -- enum-known-last
     listed-requires
-    enum-known-last-2
-    number-requires
+    (λ c. search needs)  -- enum-known-last-2
+    (λ c κs. search needs)  -- number-requires
     put-refused-requires
-    same-length
+    (λ c. search needs)  -- same-length
     returns
-    same-length-2
+    (λ c. search needs)  -- same-length-2
     returns-2)

@@ -1,6 +1,6 @@
 // The listing program: a trace's lines from standard input, its buckets and their total to standard output, or the first refused line.
-use listing::feed;
-use listing::show;
+use lister::feed;
+use lister::show;
 
 mod ending;
 

@@ -48,11 +48,11 @@ int main(void)
     if (refused("load", again.refusal, again.place))
         return 1;
 
-    int64_t row[NDZ_SLOT * BUCKETS];
-    ndz_written shown = ndz_row(again.state, other, NUMBERS, row, NDZ_SLOT * BUCKETS);
+    ndz_bucket row[BUCKETS];
+    ndz_written shown = ndz_row(again.state, other, NUMBERS, row, BUCKETS);
     if (refused("row", shown.refusal, shown.place))
         return 1;
     for (uint64_t i = 0; i < shown.buckets; i++)
-        printf("%" PRId64 " %" PRId64 " %" PRId64 " %" PRId64 "\n", row[4 * i], row[4 * i + 1], row[4 * i + 2], row[4 * i + 3]);
+        printf("%" PRIu32 " %" PRIu32 " %" PRId32 " %" PRId32 "\n", row[i].start, row[i].count, row[i].least, row[i].largest);
     return 0;
 }

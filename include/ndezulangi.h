@@ -2,9 +2,10 @@
  *
  * What every call keeps
  *   A call ends with its answer or with one refusal. `refusal` is 0 where the call was accepted, else document 01's number
- *   (the NDZ_ names below); `place` is 0 but for NDZ_RECORD, where it is the index of the record. After a refusal no lent
- *   number or byte has changed. The conditions are tried in the order in which a call lists its refusals, and the first that
- *   holds is the one given. All this is proved of the functions themselves (crates/ndezulangi), for any numbers and bytes.
+ *   (the NDZ_ names below); `place` is 0 but for NDZ_RECORD, where it is the index of the record. After a refusal nothing
+ *   that was lent has changed, but for the count of refused readings in a tally. The conditions are tried in the order in
+ *   which a call lists its refusals, and the first that holds is the one given. All this is proved of the functions
+ *   themselves (crates/ndezulangi), for any numbers and bytes.
  *
  * What every call needs
  *   A pointer comes with the number of its elements (not bytes). It must point to that many readable elements, writable ones
@@ -34,8 +35,9 @@ extern "C" {
 
 #define NDZ_DEFAULT_STEPS 32
 #define NDZ_LAST_TICK 16777215
-#define NDZ_SLOT 4    /* numbers of a slot, and of a bucket in a row */
-#define NDZ_RECORD_BYTES 16
+#define NDZ_MOST_BUCKETS 768 /* of any trace: 2B and K at their most */
+#define NDZ_SLOT 4           /* numbers of a slot */
+#define NDZ_RECORD_BYTES 16  /* bytes of a saved bucket */
 
 /* Refusals. */
 #define NDZ_STEPS 1     /* B is 0 or above 256 */
@@ -61,6 +63,21 @@ typedef struct {
     uint64_t runs;     /* longest stretches of arrived ticks */
     uint64_t readings; /* accepted so far */
 } ndz_state;
+
+/* Ticks from `start` on, `count` of them, and the least and largest reading among them. */
+typedef struct {
+    uint32_t start;
+    uint32_t count;
+    int32_t least;
+    int32_t largest;
+} ndz_bucket;
+
+/* What became of the readings of a session; each count stops at 4294967295. */
+typedef struct {
+    uint32_t accepted;
+    uint32_t refused;
+    uint32_t merges;
+} ndz_tally;
 
 /* Accepted: the next state. Refused: the state that was given; of a refused open or load all zeros, which no call accepts. */
 typedef struct {
@@ -105,14 +122,17 @@ ndz_answer ndz_next(ndz_state state, int64_t *room, size_t numbers, int32_t valu
  * Refuses: NDZ_UNSOUND, NDZ_KIND, NDZ_TICK, NDZ_TAKEN, NDZ_RUNS. */
 ndz_answer ndz_late(ndz_state state, int64_t *room, size_t numbers, uint32_t tick, int32_t value);
 
+/* The same two, counted in a tally. Begin with zeros. */
+ndz_answer ndz_next_tallied(ndz_state state, int64_t *room, size_t numbers, int32_t value, ndz_tally *tally);
+ndz_answer ndz_late_tallied(ndz_state state, int64_t *room, size_t numbers, uint32_t tick, int32_t value, ndz_tally *tally);
+
 /* The step that holds a tick. Writes nothing.
  * Refuses: NDZ_UNSOUND, NDZ_TICK, NDZ_ABSENT. */
 ndz_found ndz_lookup(ndz_state state, const int64_t *room, size_t numbers, uint32_t tick);
 
-/* The chart row: the buckets in tick order, four numbers each (start, count, least, largest), into the first places of `out`;
- * what lies behind them stays.
- * Refuses: NDZ_UNSOUND, NDZ_SHORT (`out` has fewer than four numbers for each bucket). */
-ndz_written ndz_row(ndz_state state, const int64_t *room, size_t numbers, int64_t *out, size_t out_numbers);
+/* The chart row: the buckets in tick order into the first places of `out`; what lies behind them stays.
+ * Refuses: NDZ_UNSOUND, NDZ_SHORT (`out` has fewer places than there are buckets; NDZ_MOST_BUCKETS are always enough). */
+ndz_written ndz_row(ndz_state state, const int64_t *room, size_t numbers, ndz_bucket *out, size_t places);
 
 /* The saved form: 16 bytes a bucket, in tick order; each field 32 bits, low byte first. Bytes behind them stay.
  * Refuses: NDZ_UNSOUND, NDZ_SHORT (`out` has fewer than 16 bytes for each bucket). */

@@ -16,6 +16,7 @@ pub const RECORD: usize = 16;
 pub const WORD: i64 = 4294967296;
 
 // A start tick, a count of ticks, and the least and largest reading among exactly those ticks.
+#[repr(C)]
 pub struct Bucket {
     pub start: u32,
     pub count: u32,
@@ -80,6 +81,7 @@ pub enum Written {
 }
 
 // The session tally. Each count stops at the largest u32.
+#[repr(C)]
 pub struct Tally {
     pub accepted: u32,
     pub refused: u32,

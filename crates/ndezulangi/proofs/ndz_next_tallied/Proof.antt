@@ -1,6 +1,7 @@
 -- `ndezulangi::ndz_next_tallied` meets its contract: the walk of both tallied readings, at its code. The `refl` says that the reading is called with the arguments.
 use mathlib.Core.Path.{refl}
-use Rattle.ndezulangi.proofs.Tallied.{in-order, met}
+use Rattle.tally.proofs.Reading.{in-order}
+use Rattle.ndezulangi.proofs.Tallied.{met}
 use Rattle.ndezulangi.proofs.ndz_next_tallied.Key.{name as #ndezulangi·ndz_next_tallied}
 use Rattle.ndezulangi.proofs.ndz_next_tallied.Statement as stated
 use Rattle.ndezulangi.proofs.ndz_next_tallied.Code as code

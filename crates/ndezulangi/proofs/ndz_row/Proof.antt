@@ -1,5 +1,5 @@
 -- `ndezulangi::ndz_row` meets its contract: a walk of its MIR, by hand, since a lent slice of structs is not covered. All that it knows of `trace_of`, `row::row` and `telling` is that each meets its contract.
--- The output is given up for good to `row::row` (`gave-slice`), and what that ensures of its last records is what is ensured here.
+-- The output is handed on for good to `row::row`, and what that ensures of its last records is what is ensured here.
 use mathlib.Core.Path.{_≡_, refl, ap, _∙_}
 use mathlib.Core.List.{List, [], _∷_}
 use lib.IntN.{ℤ}

@@ -11,7 +11,8 @@ enum { OPEN = 1, NEXT, LATE, LOOKUP, POKE, SET, ROW = 12, SAVE, LOAD, POKE_BYTES
 
 static ndz_state state;
 static uint64_t lent;
-static int64_t room[NUMBERS], row[NUMBERS];
+static int64_t room[NUMBERS];
+static ndz_bucket row[NUMBERS / NDZ_SLOT];
 static uint8_t file[FILE_BYTES];
 
 /* ---- what is written */
@@ -71,6 +72,19 @@ static void numbers(const int64_t *from, size_t count)
             letter(' ');
         hex((uint64_t)from[i], 1);
     }
+}
+
+/* The numbers of the row, four to a bucket; the last bucket may be told in part. */
+static void buckets(const ndz_bucket *from, size_t count)
+{
+    int64_t told[NUMBERS];
+    for (size_t i = 0; i < NUMBERS / NDZ_SLOT; i++) {
+        told[NDZ_SLOT * i] = from[i].start;
+        told[NDZ_SLOT * i + 1] = from[i].count;
+        told[NDZ_SLOT * i + 2] = from[i].least;
+        told[NDZ_SLOT * i + 3] = from[i].largest;
+    }
+    numbers(told, count);
 }
 
 static void bytes(const uint8_t *from, size_t count)
@@ -231,8 +245,8 @@ static void obey(const uint8_t *command)
         set(choice, both);
         break;
     case ROW:
-        written(ROW, ndz_row(state, room, lent_numbers(), row, least(third, NUMBERS)));
-        numbers(row, least(third, NUMBERS));
+        written(ROW, ndz_row(state, room, lent_numbers(), row, least(third, NUMBERS) / NDZ_SLOT));
+        buckets(row, least(third, NUMBERS));
         end();
         break;
     case SAVE:

@@ -1,4 +1,4 @@
 -- Laws that belong to no one function.
-mod Reading
+pub mod Reading
 pub mod Balance
 pub mod OneOutcome

@@ -1,0 +1,103 @@
+// A script read byte by byte. A word or a name has at most eight letters, so it is one number: its bytes, the first one highest.
+ghost use Prim.Native.Nat.{_<_};
+
+// The numbers of a command by the places of their names: first the six fields of a state, last one that is no name's.
+pub(crate) const LENT: usize = 6;
+pub(crate) const PLACES: usize = 7;
+pub(crate) const BYTES: usize = 8;
+pub(crate) const AT: usize = 9;
+pub(crate) const START: usize = 10;
+pub(crate) const TICK: usize = 14;
+pub(crate) const VALUE: usize = 15;
+
+// What is read so far of a line: its word, the name of the number at hand, letters of either, and the number.
+pub struct Reading {
+    pub word: u64,
+    pub name: u64,
+    pub letters: u64,
+    pub number: u64,
+    pub negative: bool,
+}
+
+pub(crate) fn nothing() -> Reading {
+    Reading {
+        word: 0,
+        name: 0,
+        letters: 0,
+        number: 0,
+        negative: false,
+    }
+}
+
+fn place(name: u64) -> usize
+    ensures { λ r. ⌜ r < 17 ⌝ }
+{
+    match name {
+        0x6b696e64 => 0,
+        0x7374657073 => 1,
+        0x67617073 => 2,
+        0x75736564 => 3,
+        0x72756e73 => 4,
+        0x72656164696e6773 => 5,
+        0x6e756d62657273 => LENT,
+        0x706c61636573 => PLACES,
+        0x6279746573 => BYTES,
+        0x6174 => AT,
+        0x7374617274 => START,
+        0x636f756e74 => START + 1,
+        0x6c65617374 => START + 2,
+        0x6c617267657374 => START + 3,
+        0x7469636b => TICK,
+        0x76616c7565 => VALUE,
+        _ => 16,
+    }
+}
+
+fn with_digit(number: u64, byte: u8) -> u64 {
+    let tenfold = std::num::wrapping_add_u64(number << 3, number << 1);
+    std::num::wrapping_add_u64(tenfold, std::num::wrapping_sub_u64(byte as u64, 48))
+}
+
+impl Reading {
+    pub(crate) fn value(self) -> u64 {
+        if self.negative {
+            std::num::wrapping_sub_u64(0, self.number)
+        } else {
+            self.number
+        }
+    }
+
+    // Behind a word or a number.
+    pub(crate) fn ended(self) -> Reading {
+        let mut next = nothing();
+        next.word = if self.word == 0 {
+            self.letters
+        } else {
+            self.word
+        };
+        next
+    }
+
+    // Within a word, a name or a number.
+    pub(crate) fn with(self, byte: u8) -> Reading {
+        let mut next = self;
+        if byte == 61 {
+            next.name = self.letters;
+            return next;
+        }
+        if byte == 45 {
+            next.negative = true;
+            return next;
+        }
+        if self.name == 0 {
+            next.letters = self.letters << 8 | byte as u64;
+        } else {
+            next.number = with_digit(self.number, byte);
+        }
+        next
+    }
+}
+
+pub(crate) fn put(given: &mut [u64; 17], reading: Reading) {
+    given[place(reading.name)] = reading.value();
+}

@@ -1,14 +1,42 @@
 // A script read byte by byte. A word or a name has at most eight letters, so it is one number: its bytes, the first one highest.
 ghost use Prim.Native.Nat.{_<_};
 
+pub(crate) const OPEN: u64 = 0x6f70656e;
+
+pub(crate) const NEXT: u64 = 0x6e657874;
+
+pub(crate) const LATE: u64 = 0x6c617465;
+
+pub(crate) const LOAD: u64 = 0x6c6f6164;
+
+pub(crate) const STATE: u64 = 0x7374617465;
+
+pub(crate) const LOOKUP: u64 = 0x6c6f6f6b7570;
+
+pub(crate) const SAVE: u64 = 0x73617665;
+
+pub(crate) const WORST: u64 = 0x776f727374;
+
+pub(crate) const SET: u64 = 0x736574;
+
+pub(crate) const BYTE: u64 = 0x62797465;
+
+pub(crate) const TAKE: u64 = 0x74616b65;
+
+pub(crate) const ROOM: u64 = 0x726f6f6d;
+
+pub(crate) const FILE: u64 = 0x66696c65;
+
 // The numbers of a command by the places of their names: first the six fields of a state, last one that is no name's.
-pub(crate) const LENT: usize = 6;
-pub(crate) const PLACES: usize = 7;
-pub(crate) const BYTES: usize = 8;
-pub(crate) const AT: usize = 9;
-pub(crate) const START: usize = 10;
-pub(crate) const TICK: usize = 14;
-pub(crate) const VALUE: usize = 15;
+pub(crate) const NUMBERS: usize = 6;
+
+pub(crate) const BYTES: usize = 7;
+
+pub(crate) const AT: usize = 8;
+
+pub(crate) const TICK: usize = 9;
+
+pub(crate) const VALUE: usize = 10;
 
 // What is read so far of a line: its word, the name of the number at hand, letters of either, and the number.
 pub struct Reading {
@@ -30,7 +58,7 @@ pub(crate) fn nothing() -> Reading {
 }
 
 fn place(name: u64) -> usize
-    ensures { λ r. ⌜ r < 17 ⌝ }
+    ensures { λ r. ⌜ r < 12 ⌝ }
 {
     match name {
         0x6b696e64 => 0,
@@ -39,17 +67,12 @@ fn place(name: u64) -> usize
         0x75736564 => 3,
         0x72756e73 => 4,
         0x72656164696e6773 => 5,
-        0x6e756d62657273 => LENT,
-        0x706c61636573 => PLACES,
+        0x6e756d62657273 => NUMBERS,
         0x6279746573 => BYTES,
         0x6174 => AT,
-        0x7374617274 => START,
-        0x636f756e74 => START + 1,
-        0x6c65617374 => START + 2,
-        0x6c617267657374 => START + 3,
         0x7469636b => TICK,
         0x76616c7565 => VALUE,
-        _ => 16,
+        _ => 11,
     }
 }
 
@@ -98,6 +121,6 @@ impl Reading {
     }
 }
 
-pub(crate) fn put(given: &mut [u64; 17], reading: Reading) {
+pub(crate) fn put(given: &mut [u64; 12], reading: Reading) {
     given[place(reading.name)] = reading.value();
 }

@@ -1,17 +1,15 @@
 // Obeys a short script from standard input and writes what every call answers and leaves. The language is the one that second/src/command.rs
-// describes; obeyed are the calls that lend no record, and the changes that they need: set, slot, state, room, file, byte and take.
+// describes; obeyed are the calls but for the row and the readings with a tally, and of the changes state, room, set, file, byte and take.
 mod line;
 mod show;
 
 ghost use Prim.Native.Nat.{_≤_};
 use line::AT;
 use line::BYTES;
-use line::LENT;
-use line::PLACES;
-use line::START;
+use line::NUMBERS;
+use line::Reading;
 use line::TICK;
 use line::VALUE;
-use line::Reading;
 use rule::Kind;
 use rule::Settings;
 use rule::State;
@@ -35,7 +33,7 @@ fn kind_of(number: u64) -> Kind {
     }
 }
 
-fn settings_of(given: &[u64; 17]) -> Settings {
+fn settings_of(given: &[u64; 12]) -> Settings {
     let kind = kind_of(given[0]);
     Settings {
         kind,
@@ -44,7 +42,7 @@ fn settings_of(given: &[u64; 17]) -> Settings {
     }
 }
 
-fn trace_of(given: &[u64; 17]) -> Trace {
+fn trace_of(given: &[u64; 12]) -> Trace {
     Trace {
         state: State {
             settings: settings_of(given),
@@ -56,7 +54,7 @@ fn trace_of(given: &[u64; 17]) -> Trace {
 }
 
 // What names that are not given stand for: the state at hand, else 0.
-fn at_hand(trace: Trace) -> [u64; 17] {
+fn at_hand(trace: Trace) -> [u64; 12] {
     let state = trace.state;
     let settings = state.settings;
     let kind = settings.kind;
@@ -67,11 +65,6 @@ fn at_hand(trace: Trace) -> [u64; 17] {
         state.used as u64,
         state.runs as u64,
         state.readings as u64,
-        0,
-        0,
-        0,
-        0,
-        0,
         0,
         0,
         0,
@@ -104,11 +97,11 @@ fn signed32(bits: u32) -> i32 {
     }
 }
 
-fn value(given: &[u64; 17]) -> i32 {
+fn value(given: &[u64; 12]) -> i32 {
     signed32((given[VALUE] % 4294967296) as u32)
 }
 
-fn tick(given: &[u64; 17]) -> u32 {
+fn tick(given: &[u64; 12]) -> u32 {
     (given[TICK] % 4294967296) as u32
 }
 
@@ -127,16 +120,6 @@ fn put(room: &mut [i64], at: usize, bits: u64) {
     }
 }
 
-fn put_slot(room: &mut [i64], given: &[u64; 17]) {
-    let slot = given[AT] as usize;
-    if slot < 2048 {
-        put(room, 4 * slot, given[START]);
-        put(room, 4 * slot + 1, given[START + 1]);
-        put(room, 4 * slot + 2, given[START + 2]);
-        put(room, 4 * slot + 3, given[START + 3]);
-    }
-}
-
 fn put_byte(file: &mut [u8], at: usize, bits: u64) {
     if at < file.len() {
         file[at] = (bits % 256) as u8;
@@ -152,146 +135,134 @@ fn take(file: &mut [u8], output: &[u8], count: usize) {
     }
 }
 
-fn open(given: &[u64; 17], trace: Trace, room: &mut [i64]) -> Trace {
-    let answer = Trace::open(settings_of(given), &mut *room);
-    show::text(b"open");
-    show::begun(answer);
-    show::numbers(b" room ", room);
-    show::text(b"\n");
-    taken(trace, answer)
-}
-
-fn next(given: &[u64; 17], trace: Trace, room: &mut [i64]) -> Trace {
-    let answer = trace.next(&mut *room, value(given));
-    show::text(b"next");
-    show::answer(trace, answer);
-    show::numbers(b" room ", room);
-    show::text(b"\n");
-    taken(trace, answer)
-}
-
-fn late(given: &[u64; 17], trace: Trace, room: &mut [i64]) -> Trace {
-    let answer = trace.late(&mut *room, tick(given), value(given));
-    show::text(b"late");
-    show::answer(trace, answer);
-    show::numbers(b" room ", room);
-    show::text(b"\n");
-    taken(trace, answer)
-}
-
-fn load(given: &[u64; 17], trace: Trace, room: &mut [i64], file: &[u8]) -> Trace {
-    let answer = saved::load(settings_of(given), file, &mut *room);
-    show::text(b"load");
-    show::begun(answer);
-    show::numbers(b" room ", room);
-    show::bytes(b" file ", file);
-    show::text(b"\n");
-    taken(trace, answer)
-}
-
-fn lookup(given: &[u64; 17], trace: Trace, room: &[i64]) {
-    let found = trace.lookup(room, tick(given));
-    show::text(b"lookup");
-    show::found(found);
-    show::numbers(b" room ", room);
-    show::text(b"\n");
-}
-
-fn save(trace: Trace, room: &[i64], output: &mut [u8]) {
-    let written = saved::save(trace, room, &mut *output);
-    show::text(b"save");
-    show::written(written);
-    show::numbers(b" room ", room);
-    show::bytes(b" output ", output);
-    show::text(b"\n");
-}
-
-fn row(trace: Trace, room: &[i64], row: &mut [i64]) {
-    let written = row::numbers(trace, room, &mut *row);
-    show::text(b"row");
-    show::written(written);
-    show::numbers(b" room ", room);
-    show::numbers(b" row ", row);
-    show::text(b"\n");
-}
-
-// A call that hands back a trace.
-fn go_on(word: u64, given: &[u64; 17], trace: Trace, room: &mut [i64], file: &[u8]) -> Trace {
+fn call(word: u64, given: &[u64; 12], trace: Trace, room: &mut [i64], file: &[u8]) -> Answer {
     match word {
-        0x6f70656e => open(given, trace, room),
-        0x6e657874 => next(given, trace, room),
-        0x6c617465 => late(given, trace, room),
-        0x6c6f6164 => load(given, trace, room, file),
-        0x7374617465 => trace_of(given),
+        line::OPEN => Trace::open(settings_of(given), &mut *room),
+        line::NEXT => trace.next(&mut *room, value(given)),
+        line::LATE => trace.late(&mut *room, tick(given), value(given)),
+        _ => saved::load(settings_of(given), file, &mut *room),
+    }
+}
+
+// A reading, which hands back the trace that it was given where it is refused.
+fn read_on(word: u64, given: &[u64; 12], trace: Trace, room: &mut [i64]) -> Trace {
+    let answer = call(word, given, trace, room, b"");
+    show::answer(word, trace, answer);
+    show::numbers(b" room ", room);
+    show::text(b"\n");
+    taken(trace, answer)
+}
+
+// An open or a load, which has none to hand back.
+fn begin(word: u64, given: &[u64; 12], trace: Trace, room: &mut [i64], file: &[u8]) -> Trace {
+    let answer = call(word, given, trace, room, file);
+    show::answer(word, trace_of(&[0; 12]), answer);
+    show::numbers(b" room ", room);
+    if word == line::LOAD {
+        show::bytes(b" file ", file);
+    }
+    show::text(b"\n");
+    taken(trace, answer)
+}
+
+// What hands back a trace.
+fn go_on(word: u64, given: &[u64; 12], trace: Trace, room: &mut [i64], file: &[u8]) -> Trace {
+    match word {
+        line::NEXT => read_on(word, given, trace, room),
+        line::LATE => read_on(word, given, trace, room),
+        line::OPEN => begin(word, given, trace, room, file),
+        line::LOAD => begin(word, given, trace, room, file),
+        line::STATE => trace_of(given),
         _ => trace,
     }
 }
 
 // A call that leaves the trace.
-fn ask(word: u64, given: &[u64; 17], trace: Trace, room: &[i64], output: &mut [u8], places: &mut [i64]) {
-    if word == 0x6c6f6f6b7570 {
-        lookup(given, trace, room);
+fn ask(word: u64, given: &[u64; 12], trace: Trace, room: &[i64], output: &mut [u8]) {
+    if word == line::LOOKUP {
+        show::found(trace.lookup(room, tick(given)));
+        show::numbers(b" room ", room);
+        show::text(b"\n");
         return;
     }
-    if word == 0x73617665 {
+    if word == line::SAVE {
         let count = least(given[BYTES] as usize, output.len());
-        save(trace, room, &mut output[0..count]);
+        show::written(saved::save(trace, room, &mut output[0..count]));
+        show::numbers(b" room ", room);
+        show::bytes(b" output ", &output[0..count]);
+        show::text(b"\n");
         return;
     }
-    if word == 0x726f77 {
-        let count = least(given[PLACES] as usize, 4096);
-        let numbers = least(4 * count, places.len());
-        row(trace, room, &mut places[0..numbers]);
+    if word == line::WORST {
+        show::worst(worst::worst(trace, room));
+        show::numbers(b" room ", room);
+        show::text(b"\n");
     }
 }
 
-fn change(word: u64, given: &[u64; 17], room: &mut [i64], file: &mut [u8], output: &[u8]) {
-    if word == 0x736574 {
+fn change(word: u64, given: &[u64; 12], room: &mut [i64], file: &mut [u8], output: &[u8]) {
+    if word == line::SET {
         put(room, given[AT] as usize, given[VALUE]);
         return;
     }
-    if word == 0x736c6f74 {
-        put_slot(room, given);
-        return;
-    }
-    if word == 0x62797465 {
+    if word == line::BYTE {
         put_byte(file, given[AT] as usize, given[VALUE]);
         return;
     }
-    if word == 0x74616b65 {
+    if word == line::TAKE {
         take(file, output, least(given[BYTES] as usize, 65536));
     }
 }
 
 // How much is lent from now on.
-fn lent(word: u64, given: &[u64; 17], held: Held) -> Held {
+fn lent(word: u64, given: &[u64; 12], held: Held) -> Held {
     let mut next = held;
-    if word == 0x726f6f6d {
-        next.numbers = given[LENT] as usize;
+    if word == line::ROOM {
+        next.numbers = given[NUMBERS] as usize;
     }
-    if word == 0x66696c65 || word == 0x74616b65 {
+    if word == line::FILE || word == line::TAKE {
         next.bytes = given[BYTES] as usize;
     }
     next
 }
 
-fn obey(word: u64, given: &[u64; 17], held: Held, room: &mut [i64], file: &mut [u8], output: &mut [u8], places: &mut [i64]) -> Held {
+fn obey(
+    word: u64,
+    given: &[u64; 12],
+    held: Held,
+    room: &mut [i64],
+    file: &mut [u8],
+    output: &mut [u8],
+) -> Held {
     change(word, given, room, file, output);
     let mut next = lent(word, given, held);
     let numbers = least(next.numbers, room.len());
     let bytes = least(next.bytes, file.len());
-    ask(word, given, next.trace, &room[0..numbers], output, places);
-    next.trace = go_on(word, given, next.trace, &mut room[0..numbers], &file[0..bytes]);
+    ask(word, given, next.trace, &room[0..numbers], output);
+    next.trace = go_on(
+        word,
+        given,
+        next.trace,
+        &mut room[0..numbers],
+        &file[0..bytes],
+    );
     next
 }
 
 // One byte of the script: within a word or a number, behind one, or at the end of a line, which is then obeyed.
-fn turn(byte: u8, held: Held, given: &mut [u64; 17], room: &mut [i64], file: &mut [u8], output: &mut [u8], places: &mut [i64]) -> Held {
+fn turn(
+    byte: u8,
+    held: Held,
+    given: &mut [u64; 12],
+    room: &mut [i64],
+    file: &mut [u8],
+    output: &mut [u8],
+) -> Held {
     let reading = held.reading;
     let mut next = held;
     if byte == 10 {
         line::put(given, reading);
-        next = obey(reading.ended().word, given, held, room, file, output, places);
+        next = obey(reading.ended().word, given, held, room, file, output);
         *given = at_hand(next.trace);
         next.reading = line::nothing();
         return next;
@@ -305,8 +276,8 @@ fn turn(byte: u8, held: Held, given: &mut [u64; 17], room: &mut [i64], file: &mu
     next
 }
 
-fn run(script: &[u8], room: &mut [i64], file: &mut [u8], output: &mut [u8], places: &mut [i64]) {
-    let mut given = [0; 17];
+fn run(script: &[u8], room: &mut [i64], file: &mut [u8], output: &mut [u8]) {
+    let mut given = [0; 12];
     let mut held = Held {
         trace: trace_of(&given),
         numbers: 0,
@@ -317,16 +288,15 @@ fn run(script: &[u8], room: &mut [i64], file: &mut [u8], output: &mut [u8], plac
     while i < script.len() {
         let byte = script[i];
         i += 1;
-        held = turn(byte, held, &mut given, room, file, output, places);
+        held = turn(byte, held, &mut given, room, file, output);
     }
 }
 
 fn main() {
     let mut room = [0i64; 8192];
-    let mut places = [0i64; 16384];
     let mut file = [0u8; 65536];
     let mut output = [0u8; 65536];
     let mut script = io::large_buffer();
     let count = io::read_full(libc::STDIN_FILENO, &mut script);
-    run(&script[0..count], &mut room, &mut file, &mut output, &mut places);
+    run(&script[0..count], &mut room, &mut file, &mut output);
 }

@@ -1,11 +1,13 @@
 // The lines that are written: what a call answers, and the checksum of what it was lent.
 ghost use Prim.Native.Nat.{_≤_};
+use crate::line;
 use rule::Found;
 use rule::Kind;
 use rule::Refusal;
 use rule::Written;
 use trace::Answer;
 use trace::Trace;
+use worst::Measured;
 
 pub(crate) fn text(bytes: &[u8]) {
     io::write_all(libc::STDOUT_FILENO, bytes);
@@ -48,8 +50,18 @@ fn state(trace: Trace) {
     unsigned(state.readings as u64);
 }
 
-// A refused reading hands back the trace that was given.
-pub(crate) fn answer(given: Trace, answer: Answer) {
+fn name(word: u64) {
+    match word {
+        line::OPEN => text(b"open"),
+        line::NEXT => text(b"next"),
+        line::LATE => text(b"late"),
+        _ => text(b"load"),
+    }
+}
+
+// Where it is refused, the trace is the given one.
+pub(crate) fn answer(word: u64, given: Trace, answer: Answer) {
+    name(word);
     match answer {
         Answer::Accepted(trace) => {
             text(b" 0 0");
@@ -62,21 +74,8 @@ pub(crate) fn answer(given: Trace, answer: Answer) {
     }
 }
 
-// Of a refused open or load, which was given none, zeros.
-pub(crate) fn begun(answer: Answer) {
-    match answer {
-        Answer::Accepted(trace) => {
-            text(b" 0 0");
-            state(trace);
-        }
-        Answer::Refused(refusal) => {
-            refused(refusal);
-            text(b" 0 0 0 0 0 0");
-        }
-    }
-}
-
 pub(crate) fn found(found: Found) {
+    text(b"lookup");
     match found {
         Found::Level {
             level,
@@ -97,7 +96,22 @@ pub(crate) fn found(found: Found) {
     }
 }
 
+pub(crate) fn worst(measured: Measured) {
+    text(b"worst");
+    match measured {
+        Measured::Error(error) => {
+            text(b" 0 0");
+            unsigned(error as u64);
+        }
+        Measured::Refused(refusal) => {
+            refused(refusal);
+            text(b" 0");
+        }
+    }
+}
+
 pub(crate) fn written(written: Written) {
+    text(b"save");
     match written {
         Written::Buckets(count) => {
             text(b" 0 0");
@@ -127,36 +141,29 @@ fn bits(number: i64) -> u64 {
     }
 }
 
-fn sum_of_numbers(numbers: &[i64]) -> u64 {
+fn wide(byte: u8) -> u64 {
+    byte as u64
+}
+
+// The checksum of lent numbers.
+pub(crate) fn numbers(name: &[u8], numbers: &[i64]) {
     let mut sum = numbers.len() as u64;
     let mut i = 0;
     while i < numbers.len() {
         sum = mixed(sum, bits(numbers[i]));
         i += 1;
     }
-    sum
+    text(name);
+    io::print_hex(libc::STDOUT_FILENO, sum, 16);
 }
 
-fn wide(byte: u8) -> u64 {
-    byte as u64
-}
-
-fn sum_of_bytes(bytes: &[u8]) -> u64 {
+pub(crate) fn bytes(name: &[u8], bytes: &[u8]) {
     let mut sum = bytes.len() as u64;
     let mut i = 0;
     while i < bytes.len() {
         sum = mixed(sum, wide(bytes[i]));
         i += 1;
     }
-    sum
-}
-
-pub(crate) fn numbers(name: &[u8], numbers: &[i64]) {
     text(name);
-    io::print_hex(libc::STDOUT_FILENO, sum_of_numbers(numbers), 16);
-}
-
-pub(crate) fn bytes(name: &[u8], bytes: &[u8]) {
-    text(name);
-    io::print_hex(libc::STDOUT_FILENO, sum_of_bytes(bytes), 16);
+    io::print_hex(libc::STDOUT_FILENO, sum, 16);
 }

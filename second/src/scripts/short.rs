@@ -3,7 +3,7 @@
 use crate::command::{Name, Word};
 use crate::made;
 use crate::random::Random;
-use crate::rule::{Kind, TICKS};
+use crate::rule::{self, Bucket, Kind, TICKS};
 use crate::script::Script;
 
 pub fn write(script: &mut Script) {
@@ -39,9 +39,9 @@ impl Script {
             self.late(tick, value);
             let used = self.session.state.used;
             for length in [used - 1, used, used + 1] {
-                self.row(length);
                 self.save(16 * length);
             }
+            self.worst();
             self.save(16 * used - 1);
             self.give(Word::Take, &[(Name::Bytes, 16 * used)]);
             self.set(0, -3);
@@ -65,7 +65,7 @@ impl Script {
         for kind in [Kind::InOrder, Kind::Late] {
             self.open_fitting(kind, 2, 3);
             let table = made::table(&mut self.random, kind, 4);
-            self.lay_sound(&table);
+            self.lay_by_numbers(&table);
             self.lookup(0);
             for name in [
                 Name::Steps,
@@ -90,11 +90,22 @@ impl Script {
         }
     }
 
+    fn lay_by_numbers(&mut self, table: &[Bucket]) {
+        let numbers = table.iter().flat_map(made::slot);
+        for (at, number) in numbers.enumerate() {
+            self.set(at, number);
+        }
+        self.state(Name::Used, table.len() as u64);
+        self.state(Name::Runs, rule::runs(table));
+        self.state(Name::Readings, rule::readings(table));
+    }
+
     fn short_calls(&mut self) {
-        match self.random.below(4) {
+        match self.random.below(5) {
             0 => self.next(2),
             1 => self.late(30, 2),
             2 => self.lookup(1),
+            3 => self.worst(),
             _ => self.save(64),
         }
     }

@@ -62,7 +62,7 @@ fn a_seed_gives_one_script_and_another_seed_another() {
 fn the_short_script_is_short_and_has_only_the_words_that_are_obeyed() {
     let script = scripts::of_name("short").unwrap();
     assert!(script.text.len() < 65_536);
-    let obeyed = "open next late lookup row save load state room set slot file byte take";
+    let obeyed = "open next late lookup worst save load state room set file byte take";
     for line in script.text.lines() {
         let word = line.split(' ').next().unwrap();
         assert!(

@@ -7,15 +7,14 @@ use Rattle.calls.proofs.run.Statement.{statement}
 use Rattle.calls.proofs.run.Tie as tie
 
 abbrev Inv-loop : tie.InvT-loop
-Inv-loop script room₀ file₀ output₀ places₀ given₀ held₀ i₀ room file output places given held i =
+Inv-loop script room₀ file₀ output₀ given₀ held₀ i₀ room file output given held i =
     (i ≤ length script)
     × (length room ≡ length room₀)
     × (length file ≡ length file₀)
     × (length output ≡ length output₀)
-    × (length places ≡ length places₀)
 
 abbrev μ-loop : tie.MeasureT-loop
-μ-loop script room₀ file₀ output₀ places₀ given₀ held₀ i₀ room file output places given held i =
+μ-loop script room₀ file₀ output₀ given₀ held₀ i₀ room file output given held i =
     length script - i
 
 trace-of-requires : tie.Need-trace-of-requires Inv-loop μ-loop
@@ -51,9 +50,6 @@ same-length-2 c = search needs
 same-length-3 : tie.Need-same-length-3 Inv-loop μ-loop
 same-length-3 c = search needs
 
-same-length-4 : tie.Need-same-length-4 Inv-loop μ-loop
-same-length-4 c = search needs
-
 returns : tie.Need-returns Inv-loop μ-loop
 returns c = search needs
 
@@ -74,5 +70,4 @@ run-spec =
     same-length
     same-length-2
     same-length-3
-    same-length-4
     returns)

@@ -1,15 +1,15 @@
--- `calls::show::sum_of_bytes` is safe and ends: the index stays within what is summed.
+-- `calls::show::bytes` is safe and ends: the index stays within what is summed.
 use Prim.Native.Nat.{_≤_, _-_}
 use borrow.Author.Needs.{needs}
 use lib.ListN.{length}
-use Rattle.calls.proofs.show.sum_of_bytes.Statement.{statement}
-use Rattle.calls.proofs.show.sum_of_bytes.Tie as tie
+use Rattle.calls.proofs.show.bytes.Statement.{statement}
+use Rattle.calls.proofs.show.bytes.Tie as tie
 
 abbrev Inv-loop : tie.InvT-loop
-Inv-loop bytes sum₀ i₀ sum i = i ≤ length bytes
+Inv-loop name bytes sum₀ i₀ sum i = i ≤ length bytes
 
 abbrev μ-loop : tie.MeasureT-loop
-μ-loop bytes sum₀ i₀ sum i = length bytes - i
+μ-loop name bytes sum₀ i₀ sum i = length bytes - i
 
 loop-holds : tie.Need-loop-holds Inv-loop μ-loop
 loop-holds c = search needs
@@ -32,11 +32,17 @@ loop-less c = search needs
 loop-again : tie.Need-loop-again Inv-loop μ-loop
 loop-again c = search needs
 
+text-requires : tie.Need-text-requires Inv-loop μ-loop
+text-requires c κs = search needs
+
+print-hex-requires : tie.Need-print-hex-requires Inv-loop μ-loop
+print-hex-requires c κs = search needs
+
 returns : tie.Need-returns Inv-loop μ-loop
 returns c = search needs
 
-pub sum-of-bytes-spec : {M : Type 1} → statement M
-sum-of-bytes-spec =
+pub bytes-spec : {M : Type 1} → statement M
+bytes-spec =
     tie.close
     (tie.spec
     Inv-loop
@@ -48,4 +54,6 @@ sum-of-bytes-spec =
     add-i
     loop-less
     loop-again
+    text-requires
+    print-hex-requires
     returns)

@@ -1,15 +1,15 @@
--- `calls::show::sum_of_numbers` is safe and ends: the index stays within what is summed.
+-- `calls::show::numbers` is safe and ends: the index stays within what is summed.
 use Prim.Native.Nat.{_≤_, _-_}
 use borrow.Author.Needs.{needs}
 use lib.ListN.{length}
-use Rattle.calls.proofs.show.sum_of_numbers.Statement.{statement}
-use Rattle.calls.proofs.show.sum_of_numbers.Tie as tie
+use Rattle.calls.proofs.show.numbers.Statement.{statement}
+use Rattle.calls.proofs.show.numbers.Tie as tie
 
 abbrev Inv-loop : tie.InvT-loop
-Inv-loop numbers sum₀ i₀ sum i = i ≤ length numbers
+Inv-loop name numbers sum₀ i₀ sum i = i ≤ length numbers
 
 abbrev μ-loop : tie.MeasureT-loop
-μ-loop numbers sum₀ i₀ sum i = length numbers - i
+μ-loop name numbers sum₀ i₀ sum i = length numbers - i
 
 loop-holds : tie.Need-loop-holds Inv-loop μ-loop
 loop-holds c = search needs
@@ -35,11 +35,17 @@ loop-less c = search needs
 loop-again : tie.Need-loop-again Inv-loop μ-loop
 loop-again c = search needs
 
+text-requires : tie.Need-text-requires Inv-loop μ-loop
+text-requires c κs = search needs
+
+print-hex-requires : tie.Need-print-hex-requires Inv-loop μ-loop
+print-hex-requires c κs = search needs
+
 returns : tie.Need-returns Inv-loop μ-loop
 returns c = search needs
 
-pub sum-of-numbers-spec : {M : Type 1} → statement M
-sum-of-numbers-spec =
+pub numbers-spec : {M : Type 1} → statement M
+numbers-spec =
     tie.close
     (tie.spec
     Inv-loop
@@ -52,4 +58,6 @@ sum-of-numbers-spec =
     add-i
     loop-less
     loop-again
+    text-requires
+    print-hex-requires
     returns)

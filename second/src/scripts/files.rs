@@ -29,7 +29,7 @@
 //! | a run more | 1 | before the first stands a record of tick 0 alone, its reading 4 |
 //! | a record more | each record of more than one tick | it is two: its first tick, of the least reading, and the others, least and largest kept but where they are one tick |
 //!
-//! A file of at most nine records gets the fault at every place; any other file at each place whose number divides by 1,009 where a bit is flipped, by 61 otherwise,
+//! A file of at most nine records gets the fault at every place; any other file at each place whose number divides by 211 where a bit is flipped, by 17 otherwise,
 //! and all 15 cuts.
 //!
 //! The settings are the shape's kind, B and K, and the room holds the numbers that a trace of the settings' kind with the shape's B and K
@@ -202,9 +202,9 @@ pub fn each_try(shape: &Shape, fault: Fault, mut tried: impl FnMut(&Try)) {
     };
     let apart = match fault {
         _ if shape.records <= SMALL => 1,
-        Fault::Flipped => 1_009,
+        Fault::Flipped => 211,
         Fault::Cut => 1,
-        _ => 61,
+        _ => 17,
     };
     for place in (0..fault.places(records.len())).step_by(apart) {
         let Some(file) = fault.file(&records, place) else {

@@ -1,34 +1,57 @@
-/* Obeys a script of calls from standard input over the exported functions, and writes after every call its answer, the state, and every lent
- * number and byte. Commands and lines are those that second/src/commands.rs describes, in the form that it calls whole; opcodes 8 to 11 are not
- * obeyed here, nor is 7. */
+/* Obeys a script of calls from standard input over the exported functions, and writes after every call its answer, and every lent number and byte by
+ * a checksum. The language is the one that second/src/command.rs describes. With --selftest it shows that a callee which touches more than it is
+ * lent, or writes to what is const, ends it. */
+#define _GNU_SOURCE
+#include "lend.h"
 #include "ndezulangi.h"
 #include <stdio.h>
+#include <stdlib.h>
 #include <string.h>
+#include <sys/wait.h>
+#include <unistd.h>
 
-enum { COMMAND = 16, NUMBERS = 4096, FILE_BYTES = 16384, OUTPUT = 1 << 20, LONGEST = 1 << 18 };
+enum { NUMBERS = 8192, BYTES = 65536, PLACES = BYTES / NDZ_RECORD_BYTES, LINE = 1024 };
 
-enum { OPEN = 1, NEXT, LATE, LOOKUP, POKE, SET, ROW = 12, SAVE, LOAD, POKE_BYTES, COPY };
+/* ---- what the script has made so far */
 
 static ndz_state state;
-static uint64_t lent;
+static ndz_tally tally;
 static int64_t room[NUMBERS];
-static ndz_bucket row[NUMBERS / NDZ_SLOT];
-static uint8_t file[FILE_BYTES];
+static uint8_t file[BYTES], output[BYTES];
+static ndz_bucket row[PLACES];
+static size_t numbers_lent, bytes_lent;
+
+/* ---- the numbers of the command at hand */
+
+enum name { KIND, STEPS, GAPS, USED, RUNS, READINGS, ACCEPTED, REFUSED, MERGES, LENT, PLACE, LENGTH, AT, FROM, TO, START, COUNT, LEAST, LARGEST, TICK, VALUE, NAMES };
+
+static const char *const names[NAMES] = {"kind", "steps", "gaps", "used", "runs", "readings", "accepted", "refused", "merges", "numbers", "places",
+    "bytes", "at", "from", "to", "start", "count", "least", "largest", "tick", "value"};
+
+static uint64_t number[NAMES];
+
+static size_t at_most(uint64_t wanted, size_t most)
+{
+    return wanted < most ? wanted : most;
+}
 
 /* ---- what is written */
 
-static char output[OUTPUT];
+static char written_text[1 << 16];
 static size_t filled;
 
 static void flush(void)
 {
-    fwrite(output, 1, filled, stdout);
+    if (fwrite(written_text, 1, filled, stdout) != filled)
+        exit(4);
     filled = 0;
 }
 
 static void letter(char c)
 {
-    output[filled++] = c;
+    if (filled == sizeof written_text)
+        flush();
+    written_text[filled++] = c;
 }
 
 static void text(const char *words)
@@ -37,242 +60,527 @@ static void text(const char *words)
         letter(*words++);
 }
 
-static void decimal(uint64_t number)
+static void decimal(uint64_t value)
 {
     char digits[20];
     int count = 0;
     do
-        digits[count++] = (char)('0' + number % 10);
-    while ((number /= 10) != 0);
+        digits[count++] = (char)('0' + value % 10);
+    while ((value /= 10) != 0);
     while (count > 0)
         letter(digits[--count]);
+}
+
+static void unsigned_number(uint64_t value)
+{
     letter(' ');
+    decimal(value);
 }
 
-static void signed_decimal(int64_t number)
+static void signed_number(int64_t value)
 {
-    if (number < 0)
+    letter(' ');
+    if (value < 0)
         letter('-');
-    decimal(number < 0 ? 0 - (uint64_t)number : (uint64_t)number);
+    decimal(value < 0 ? 0 - (uint64_t)value : (uint64_t)value);
 }
 
-static void hex(uint64_t number, int least_digits)
+static uint64_t mixed(uint64_t sum, uint64_t value)
 {
-    int digits = least_digits;
-    while (digits < 16 && number >> 4 * digits)
-        digits++;
-    while (digits > 0)
-        letter("0123456789abcdef"[number >> 4 * --digits & 15]);
+    sum ^= value;
+    sum ^= sum << 13;
+    sum ^= sum >> 7;
+    sum ^= sum << 17;
+    return sum + 11400714819323198485u;
 }
 
-static void numbers(const int64_t *from, size_t count)
+static void checksum(const char *what, uint64_t sum)
 {
-    for (size_t i = 0; i < count; i++) {
-        if (i > 0)
-            letter(' ');
-        hex((uint64_t)from[i], 1);
-    }
+    text(what);
+    for (int digit = 15; digit >= 0; digit--)
+        letter("0123456789abcdef"[sum >> 4 * digit & 15]);
 }
 
-/* The numbers of the row, four to a bucket; the last bucket may be told in part. */
-static void buckets(const ndz_bucket *from, size_t count)
+static void show_room(void)
 {
-    int64_t told[NUMBERS];
-    for (size_t i = 0; i < NUMBERS / NDZ_SLOT; i++) {
-        told[NDZ_SLOT * i] = from[i].start;
-        told[NDZ_SLOT * i + 1] = from[i].count;
-        told[NDZ_SLOT * i + 2] = from[i].least;
-        told[NDZ_SLOT * i + 3] = from[i].largest;
-    }
-    numbers(told, count);
+    uint64_t sum = numbers_lent;
+    for (size_t i = 0; i < numbers_lent; i++)
+        sum = mixed(sum, (uint64_t)room[i]);
+    checksum(" room ", sum);
 }
 
-static void bytes(const uint8_t *from, size_t count)
+static void show_bytes(const char *what, const uint8_t *bytes, size_t count)
 {
+    uint64_t sum = count;
     for (size_t i = 0; i < count; i++)
-        hex(from[i], 2);
+        sum = mixed(sum, bytes[i]);
+    checksum(what, sum);
 }
 
-static void begin(int opcode, uint32_t refusal, uint64_t place)
+static void show_row(size_t places)
 {
-    decimal((uint64_t)opcode);
-    if (refusal == 0)
-        return;
-    text("refused ");
-    decimal(refusal);
-    decimal(place);
+    uint64_t sum = 4 * places;
+    for (size_t i = 0; i < places; i++) {
+        sum = mixed(mixed(sum, row[i].start), row[i].count);
+        sum = mixed(mixed(sum, (uint64_t)(int64_t)row[i].least), (uint64_t)(int64_t)row[i].largest);
+    }
+    checksum(" row ", sum);
 }
 
-static void end(void)
+static void show_state(ndz_state of)
 {
-    letter('\n');
-    if (filled > OUTPUT - LONGEST)
-        flush();
+    unsigned_number(of.kind);
+    unsigned_number(of.steps);
+    unsigned_number(of.gaps);
+    unsigned_number(of.used);
+    unsigned_number(of.runs);
+    unsigned_number(of.readings);
 }
 
-static size_t least(uint64_t a, uint64_t b)
+static void refused(uint32_t refusal, uint64_t place)
 {
-    return a < b ? a : b;
-}
-
-static size_t lent_numbers(void)
-{
-    return least(lent, NUMBERS);
+    text(call_at_hand);
+    unsigned_number(refusal);
+    unsigned_number(place);
 }
 
 /* ---- the calls */
 
-static void answered(int opcode, ndz_answer answer)
+static int64_t *lend_room(void)
 {
-    begin(opcode, answer.refusal, answer.place);
-    if (answer.refusal == 0) {
-        state = answer.state;
-        text("accepted ");
-    }
-    decimal(answer.state.kind);
-    decimal(answer.state.steps);
-    decimal(answer.state.gaps);
-    decimal(answer.state.used);
-    decimal(answer.state.runs);
-    decimal(answer.state.readings);
-    numbers(room, lent_numbers());
-    end();
+    return lend(room_part, room, numbers_lent * sizeof *room);
+}
+
+static const int64_t *lend_const_room(void)
+{
+    return lend_const(room_part, room, numbers_lent * sizeof *room);
+}
+
+static ndz_settings settings(void)
+{
+    return (ndz_settings){.kind = number[KIND], .steps = number[STEPS], .gaps = number[GAPS]};
+}
+
+static void answered(ndz_answer answer)
+{
+    take_back(room_part, room);
+    refused(answer.refusal, answer.place);
+    show_state(answer.state);
+    show_room();
+}
+
+static void obey_open(void)
+{
+    ndz_answer answer = ndz_open(settings(), lend_room(), numbers_lent);
+    answered(answer);
+    ndz_take(&state, answer);
+    letter('\n');
+}
+
+static void obey_load(void)
+{
+    const uint8_t *lent = lend_const(file_part, file, bytes_lent);
+    ndz_answer answer = ndz_load(settings(), lent, bytes_lent, lend_room(), numbers_lent);
+    take_back(file_part, file);
+    answered(answer);
+    ndz_take(&state, answer);
+    show_bytes(" file ", file, bytes_lent);
+    letter('\n');
 }
 
 /* A reading that is refused answers the state that was given; the script goes on with that answer too. */
-static void read_on(int opcode, ndz_answer answer)
+static void read_on(ndz_answer answer)
 {
+    answered(answer);
     state = answer.state;
-    answered(opcode, answer);
 }
 
-/* No command asks for ndz_level, ndz_error and ndz_worst: with every lookup they must tell what it and the room do. */
-static int agreed(uint32_t tick, ndz_found found)
+static void obey_next(void)
 {
-    ndz_worst_error worst = ndz_worst(state, room, lent_numbers());
-    if (worst.refusal != 0 || found.refusal == NDZ_UNSOUND)
-        return worst.refusal == NDZ_UNSOUND && found.refusal == NDZ_UNSOUND && worst.place == 0 && worst.error == 0;
-    uint32_t greatest = 0;
-    int here = found.refusal != 0;
-    for (const int64_t *slot = room; slot < room + NDZ_SLOT * state.used; slot += NDZ_SLOT) {
-        ndz_bucket bucket = {(uint32_t)slot[0], (uint32_t)slot[1], (int32_t)slot[2], (int32_t)slot[3]};
-        uint32_t error = ndz_error(bucket);
-        if (greatest < error)
-            greatest = error;
-        if (found.refusal == 0 && bucket.start <= tick && tick - bucket.start < bucket.count)
-            here = ndz_level(bucket) == found.level && error == found.error;
-    }
-    return here && worst.error == greatest;
+    read_on(ndz_next(state, lend_room(), numbers_lent, (int32_t)number[VALUE]));
+    letter('\n');
 }
 
-static void looked_up(uint32_t tick, ndz_found found)
+static void obey_late(void)
 {
-    if (!agreed(tick, found))
-        text("ndz_level, ndz_error or ndz_worst differs ");
-    begin(LOOKUP, found.refusal, found.place);
-    if (found.refusal == 0) {
-        text("found ");
-        signed_decimal(found.level);
-        decimal(found.error);
-        signed_decimal(found.least);
-        signed_decimal(found.largest);
-    }
-    numbers(room, lent_numbers());
-    end();
+    read_on(ndz_late(state, lend_room(), numbers_lent, (uint32_t)number[TICK], (int32_t)number[VALUE]));
+    letter('\n');
 }
 
-static void written(int opcode, ndz_written written)
+static void obey_lookup(void)
 {
-    begin(opcode, written.refusal, written.place);
-    if (written.refusal == 0) {
-        text("accepted ");
-        decimal(written.buckets);
-    }
-    numbers(room, lent_numbers());
-    letter(' ');
+    ndz_found found = ndz_lookup(state, lend_const_room(), numbers_lent, (uint32_t)number[TICK]);
+    take_back(room_part, room);
+    refused(found.refusal, found.place);
+    signed_number(found.level);
+    unsigned_number(found.error);
+    signed_number(found.least);
+    signed_number(found.largest);
+    show_room();
+    letter('\n');
 }
 
-static void set(uint8_t which, uint64_t number)
+static void wrote(ndz_written answer)
 {
-    uint64_t *facts[] = {&state.kind, &state.steps, &state.gaps, &state.used, &state.runs, &state.readings, &lent};
-    if (which < sizeof facts / sizeof facts[0])
-        *facts[which] = number;
+    take_back(room_part, room);
+    refused(answer.refusal, answer.place);
+    unsigned_number(answer.buckets);
+    show_room();
 }
 
-static void poke_bytes(uint8_t count, uint32_t at, uint64_t eight)
+/* Another one in the self test. */
+static ndz_written (*save)(ndz_state, const int64_t *, size_t, uint8_t *, size_t) = ndz_save;
+
+static void obey_save(void)
 {
-    for (uint32_t i = 0; i < least(count, 8); i++)
-        if ((uint64_t)at + i < FILE_BYTES)
-            file[at + i] = (uint8_t)(eight >> 8 * i);
+    size_t count = at_most(number[LENGTH], BYTES);
+    uint8_t *lent = lend(output_part, output, count);
+    ndz_written answer = save(state, lend_const_room(), numbers_lent, lent, count);
+    take_back(output_part, output);
+    wrote(answer);
+    show_bytes(" output ", output, count);
+    letter('\n');
 }
 
-static void copy(uint64_t from, uint64_t to, uint64_t count)
+static void obey_row(void)
 {
-    if (NDZ_RECORD_BYTES * (from + count) <= FILE_BYTES && NDZ_RECORD_BYTES * (to + count) <= FILE_BYTES)
+    size_t places = at_most(number[PLACE], PLACES);
+    ndz_bucket *lent = lend(row_part, row, places * sizeof *row);
+    ndz_written answer = ndz_row(state, lend_const_room(), numbers_lent, lent, places);
+    take_back(row_part, row);
+    wrote(answer);
+    show_row(places);
+    letter('\n');
+}
+
+static void told(ndz_answer answer)
+{
+    take_back(tally_part, &tally);
+    read_on(answer);
+    text(" tally");
+    unsigned_number(tally.accepted);
+    unsigned_number(tally.refused);
+    unsigned_number(tally.merges);
+    letter('\n');
+}
+
+static void obey_next_told(void)
+{
+    ndz_tally *lent = lend(tally_part, &tally, sizeof tally);
+    told(ndz_next_tallied(state, lend_room(), numbers_lent, (int32_t)number[VALUE], lent));
+}
+
+static void obey_late_told(void)
+{
+    ndz_tally *lent = lend(tally_part, &tally, sizeof tally);
+    told(ndz_late_tallied(state, lend_room(), numbers_lent, (uint32_t)number[TICK], (int32_t)number[VALUE], lent));
+}
+
+static void obey_worst(void)
+{
+    ndz_worst_error answer = ndz_worst(state, lend_const_room(), numbers_lent);
+    take_back(room_part, room);
+    refused(answer.refusal, answer.place);
+    unsigned_number(answer.error);
+    show_room();
+    letter('\n');
+}
+
+static ndz_bucket bucket(void)
+{
+    return (ndz_bucket){(uint32_t)number[START], (uint32_t)number[COUNT], (int32_t)number[LEAST], (int32_t)number[LARGEST]};
+}
+
+static void obey_level(void)
+{
+    text(call_at_hand);
+    signed_number(ndz_level(bucket()));
+    letter('\n');
+}
+
+static void obey_error(void)
+{
+    text(call_at_hand);
+    unsigned_number(ndz_error(bucket()));
+    letter('\n');
+}
+
+static void obey_show(void)
+{
+    text(call_at_hand);
+    show_state(state);
+    for (size_t i = 0; i < numbers_lent; i++)
+        signed_number(room[i]);
+    letter('\n');
+}
+
+/* ---- changes to what calls are given */
+
+static void obey_state(void)
+{
+    state = (ndz_state){number[KIND], number[STEPS], number[GAPS], number[USED], number[RUNS], number[READINGS]};
+}
+
+static void obey_tally(void)
+{
+    tally = (ndz_tally){(uint32_t)number[ACCEPTED], (uint32_t)number[REFUSED], (uint32_t)number[MERGES]};
+}
+
+static void obey_room(void)
+{
+    numbers_lent = at_most(number[LENT], NUMBERS);
+}
+
+static void obey_fill(void)
+{
+    for (size_t i = 0; i < numbers_lent; i++)
+        room[i] = (int64_t)number[VALUE];
+}
+
+static void obey_set(void)
+{
+    if (number[AT] < NUMBERS)
+        room[number[AT]] = (int64_t)number[VALUE];
+}
+
+static void obey_slot(void)
+{
+    if (number[AT] < NUMBERS / NDZ_SLOT)
+        for (size_t i = 0; i < NDZ_SLOT; i++)
+            room[NDZ_SLOT * number[AT] + i] = (int64_t)number[START + i];
+}
+
+static void obey_file(void)
+{
+    bytes_lent = at_most(number[LENGTH], BYTES);
+}
+
+static void obey_byte(void)
+{
+    if (number[AT] < BYTES)
+        file[number[AT]] = (uint8_t)number[VALUE];
+}
+
+static void obey_record(void)
+{
+    if (number[AT] < PLACES)
+        for (size_t i = 0; i < NDZ_RECORD_BYTES; i++)
+            file[NDZ_RECORD_BYTES * number[AT] + i] = (uint8_t)(number[START + i / 4] >> 8 * (i % 4));
+}
+
+static void obey_copy(void)
+{
+    size_t from = at_most(number[FROM], PLACES + 1), to = at_most(number[TO], PLACES + 1), count = at_most(number[COUNT], PLACES + 1);
+    if (from + count <= PLACES && to + count <= PLACES)
         memmove(file + NDZ_RECORD_BYTES * to, file + NDZ_RECORD_BYTES * from, NDZ_RECORD_BYTES * count);
 }
 
-static uint32_t word(const uint8_t *from)
+static void obey_take(void)
 {
-    return from[0] | (uint32_t)from[1] << 8 | (uint32_t)from[2] << 16 | (uint32_t)from[3] << 24;
+    bytes_lent = at_most(number[LENGTH], BYTES);
+    memcpy(file, output, bytes_lent);
 }
 
-static void obey(const uint8_t *command)
+static void obey_blank(void)
 {
-    uint8_t choice = command[1];
-    uint32_t first = word(command + 4), second = word(command + 8), third = word(command + 12);
-    uint64_t both = second | (uint64_t)third << 32;
-    ndz_settings settings = {.kind = choice, .steps = first, .gaps = second};
-    switch (command[0]) {
-    case OPEN:
-        lent = third;
-        answered(OPEN, ndz_open(settings, room, lent_numbers()));
-        break;
-    case NEXT:
-        read_on(NEXT, ndz_next(state, room, lent_numbers(), (int32_t)first));
-        break;
-    case LATE:
-        read_on(LATE, ndz_late(state, room, lent_numbers(), first, (int32_t)second));
-        break;
-    case LOOKUP:
-        looked_up(first, ndz_lookup(state, room, lent_numbers(), first));
-        break;
-    case POKE:
-        if (first < NUMBERS)
-            room[first] = (int64_t)both;
-        break;
-    case SET:
-        set(choice, both);
-        break;
-    case ROW:
-        written(ROW, ndz_row(state, room, lent_numbers(), row, least(third, NUMBERS) / NDZ_SLOT));
-        buckets(row, least(third, NUMBERS));
-        end();
-        break;
-    case SAVE:
-        written(SAVE, ndz_save(state, room, lent_numbers(), file, least(third, FILE_BYTES)));
-        bytes(file, least(third, FILE_BYTES));
-        end();
-        break;
-    case LOAD:
-        answered(LOAD, ndz_load(settings, file, least(third, FILE_BYTES), room, lent_numbers()));
-        break;
-    case POKE_BYTES:
-        poke_bytes(choice, first, both);
-        break;
-    case COPY:
-        copy(first, second, third);
-        break;
+    size_t count = at_most(number[LENGTH], BYTES);
+    memset(output, (int)(number[VALUE] & 255), count);
+    memset(row, (int)(number[VALUE] & 255), count);
+}
+
+/* ---- the language */
+
+static const struct {
+    const char *word;
+    void (*obey)(void);
+} words[] = {
+    {"set", obey_set},
+    {"fill", obey_fill},
+    {"load", obey_load},
+    {"room", obey_room},
+    {"byte", obey_byte},
+    {"late", obey_late},
+    {"next", obey_next},
+    {"save", obey_save},
+    {"blank", obey_blank},
+    {"lookup", obey_lookup},
+    {"open", obey_open},
+    {"row", obey_row},
+    {"state", obey_state},
+    {"record", obey_record},
+    {"slot", obey_slot},
+    {"file", obey_file},
+    {"copy", obey_copy},
+    {"take", obey_take},
+    {"tally", obey_tally},
+    {"show", obey_show},
+    {"worst", obey_worst},
+    {"level", obey_level},
+    {"error", obey_error},
+    {"nexttold", obey_next_told},
+    {"latetold", obey_late_told},
+};
+
+static void not_a_command(const char *line)
+{
+    flush();
+    fprintf(stderr, "host: line %llu is no command: %s\n", (unsigned long long)line_at_hand, line);
+    exit(2);
+}
+
+static void read_number(char *pair)
+{
+    char *value = strchr(pair, '=');
+    if (value == NULL)
+        not_a_command(pair);
+    *value++ = 0;
+    int negative = *value == '-';
+    uint64_t read = 0;
+    for (char *digit = value + negative; *digit; digit++)
+        read = 10 * read + (uint64_t)(*digit - '0');
+    for (int name = 0; name < NAMES; name++)
+        if (strcmp(names[name], pair) == 0) {
+            number[name] = negative ? 0 - read : read;
+            return;
+        }
+    not_a_command(pair);
+}
+
+/* What a name that is not given stands for. */
+static void begin(void)
+{
+    const uint64_t at_hand[] = {state.kind, state.steps, state.gaps, state.used, state.runs, state.readings, tally.accepted, tally.refused, tally.merges};
+    memset(number, 0, sizeof number);
+    memcpy(number, at_hand, sizeof at_hand);
+}
+
+static void obey(char *line)
+{
+    char *rest;
+    char *word = strtok_r(line, " \n", &rest);
+    if (word == NULL || *word == '#')
+        return;
+    begin();
+    for (char *pair; (pair = strtok_r(NULL, " \n", &rest)) != NULL;)
+        read_number(pair);
+    for (size_t i = 0; i < sizeof words / sizeof words[0]; i++)
+        if (strcmp(words[i].word, word) == 0) {
+            call_at_hand = words[i].word;
+            words[i].obey();
+            return;
+        }
+    not_a_command(word);
+}
+
+/* ---- the self test: wrong callees in the place of save */
+
+static volatile int64_t seen;
+
+static ndz_written right(ndz_state of, const int64_t *numbers, size_t count, uint8_t *out, size_t out_bytes)
+{
+    for (size_t i = 0; i < count; i++)
+        seen += numbers[i];
+    for (size_t i = 0; i < out_bytes; i++)
+        out[i] = 1;
+    return (ndz_written){0, 0, of.used};
+}
+
+static ndz_written reads_before(ndz_state of, const int64_t *numbers, size_t count, uint8_t *out, size_t out_bytes)
+{
+    seen += numbers[-1];
+    return right(of, numbers, count, out, out_bytes);
+}
+
+static ndz_written reads_behind(ndz_state of, const int64_t *numbers, size_t count, uint8_t *out, size_t out_bytes)
+{
+    seen += numbers[count];
+    return right(of, numbers, count, out, out_bytes);
+}
+
+static ndz_written writes_before(ndz_state of, const int64_t *numbers, size_t count, uint8_t *out, size_t out_bytes)
+{
+    *(volatile uint8_t *)(out - 1) = 1;
+    return right(of, numbers, count, out, out_bytes);
+}
+
+static ndz_written writes_behind(ndz_state of, const int64_t *numbers, size_t count, uint8_t *out, size_t out_bytes)
+{
+    *(volatile uint8_t *)(out + out_bytes) = 1;
+    return right(of, numbers, count, out, out_bytes);
+}
+
+/* The same number again: only that it is written is wrong. */
+static ndz_written writes_const(ndz_state of, const int64_t *numbers, size_t count, uint8_t *out, size_t out_bytes)
+{
+    volatile int64_t *first = (volatile int64_t *)(uintptr_t)numbers;
+    *first = *first;
+    return right(of, numbers, count, out, out_bytes);
+}
+
+/* So many saves by the callee, in a process of its own; answers its status, and what it said. */
+static int tried(ndz_written (*callee)(ndz_state, const int64_t *, size_t, uint8_t *, size_t), char *said, size_t most)
+{
+    int ends[2];
+    memset(said, 0, most);
+    if (pipe(ends) != 0)
+        return -1;
+    pid_t child = fork();
+    if (child == 0) {
+        dup2(ends[1], STDERR_FILENO);
+        close(ends[0]);
+        save = callee;
+        for (int turn = 0; turn < 64; turn++) {
+            char line[] = "save bytes=33";
+            numbers_lent = 13;
+            obey(line);
+        }
+        _exit(0);
     }
+    close(ends[1]);
+    ssize_t length = read(ends[0], said, most - 1);
+    close(ends[0]);
+    int status = -1;
+    if (child < 0 || length < 0 || waitpid(child, &status, 0) != child || !WIFEXITED(status))
+        return -1;
+    return WEXITSTATUS(status);
 }
 
-int main(void)
+static int selftest(void)
 {
-    static uint8_t input[COMMAND * 4096];
-    size_t count;
-    while ((count = fread(input, COMMAND, 4096, stdin)) > 0)
-        for (size_t i = 0; i < count; i++)
-            obey(input + COMMAND * i);
+    static const struct {
+        const char *name, *message;
+        ndz_written (*callee)(ndz_state, const int64_t *, size_t, uint8_t *, size_t);
+        int status;
+    } callees[] = {
+        {"right", "", right, 0},
+        {"reads before the room", "touches what lies before the room", reads_before, 3},
+        {"reads behind the room", "touches what lies behind the room", reads_behind, 3},
+        {"writes before the output", " the output", writes_before, 3},
+        {"writes behind the output", " the output", writes_behind, 3},
+        {"writes to the const room", "writes to the room", writes_const, 3},
+    };
+    for (size_t i = 0; i < sizeof callees / sizeof callees[0]; i++) {
+        char said[256];
+        int status = tried(callees[i].callee, said, sizeof said);
+        if (status != callees[i].status || strstr(said, callees[i].message) == NULL) {
+            printf("host: a callee that %s ends with %d and says: %s\n", callees[i].name, status, said);
+            return 1;
+        }
+    }
+    puts("host: a callee that touches more than it is lent, or writes to what is const, ends it");
+    return 0;
+}
+
+int main(int count, char **arguments)
+{
+    static char line[LINE];
+    make_parts();
+    if (count > 1 && strcmp(arguments[1], "--selftest") == 0)
+        return selftest();
+    while (fgets(line, sizeof line, stdin) != NULL) {
+        line_at_hand++;
+        obey(line);
+    }
     flush();
     return 0;
 }

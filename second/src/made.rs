@@ -1,19 +1,20 @@
-//! What scripts of commands are made from: sound tables by chance, and values near and far of one that is there.
+//! What scripts are made from: sound tables by chance, and values near and far of one that is there.
 
 use crate::calls::SLOT;
-use crate::commands::KIND;
 use crate::random::Random;
 use crate::rule::{Bucket, Kind, TICKS};
 
-/// Another value for a fact; a kind may be any number.
-pub fn other_fact(random: &mut Random, which: u8, fact: u64) -> u64 {
-    if which == KIND {
-        let other = u64::from(fact == 0);
-        return random.choice(&[other, other, 7, 1 << 32, u64::MAX]);
-    }
+/// Another kind, which may be any number.
+pub fn other_kind(random: &mut Random, kind: u64) -> u64 {
+    let other = u64::from(kind == 0);
+    random.choice(&[other, other, 7, 1 << 32, u64::MAX])
+}
+
+/// Another value for a field of the state but its kind.
+pub fn other_field(random: &mut Random, field: u64) -> u64 {
     let ends = [0, 1, 256, 257, TICKS, 1 << 32, 1 << 62, u64::MAX];
     let end = random.choice(&ends);
-    random.choice(&[fact.wrapping_add(1), fact.saturating_sub(1), end])
+    random.choice(&[field.wrapping_add(1), field.saturating_sub(1), end])
 }
 
 /// Another value for a number of the room.

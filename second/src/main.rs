@@ -1,31 +1,13 @@
-//! What the second program is asked for by name: the listing and inputs for it, the sample, and what the compared programs read and write.
+//! What the second program is asked for by name: the listing and inputs for it, the sample, scripts of calls, and what they write and meet.
 
-use second::rule::Bucket;
-use second::told::{self, Form};
-use second::{classes, commands_input, files, lines, listing, sample, script, session};
-use std::fmt::Write as _;
-use std::io::{self, Read, Write};
+use second::counts::{self, Met};
+use second::scripts::{self, chance};
+use second::{classes, lines, listing, sample, told};
+use std::fs;
+use std::io::{self, BufWriter, Read, Write};
 use std::process::ExitCode;
 
-/// Readings at the ends of the range, about zero and between, odd and even.
-const VALUES: [i64; 13] = [
-    -2147483648,
-    -2147483647,
-    -1073741824,
-    -1001,
-    -3,
-    -2,
-    -1,
-    0,
-    1,
-    2,
-    1000,
-    2147483646,
-    2147483647,
-];
-
-const USAGE: &str =
-    "second list | classes | buckets | calls [whole] | calls-input | files | lines N | sample [READINGS] | session | script SEED COUNT | script-counts SEED COUNT";
+const USAGE: &str = "second list | classes | lines N | sample [READINGS] | script NAME | script SEED CALLS | obey [COUNTS] | sum COUNTS.. | enough COUNTS..";
 
 fn main() -> ExitCode {
     let arguments: Vec<String> = std::env::args().skip(1).collect();
@@ -34,6 +16,7 @@ fn main() -> ExitCode {
         Ok(true) => ExitCode::SUCCESS,
         Ok(false) => {
             eprintln!("usage: {USAGE}");
+            eprintln!("scripts: {}", scripts::NAMES.join(" "));
             ExitCode::from(2)
         }
         Err(error) => {
@@ -55,24 +38,54 @@ fn answer(words: &[&str], out: &mut impl Write) -> io::Result<bool> {
             }
         }
         ["list"] => out.write_all(&listing::list(io::stdin().lock())?)?,
-        ["buckets"] => out.write_all(buckets().as_bytes())?,
-        ["calls"] => told::obey_all(Form::Checksums, io::stdin().lock(), out)?,
-        ["calls", "whole"] => told::obey_all(Form::Whole, io::stdin().lock(), out)?,
-        ["calls-input"] => out.write_all(&commands_input::input())?,
-        ["files"] => out.write_all(files::lines().as_bytes())?,
         ["sample"] => out.write_all(sample::sample(sample::READINGS).as_bytes())?,
         ["sample", readings] => out.write_all(sample::sample(number(readings)?).as_bytes())?,
-        ["session"] => out.write_all(session::lines().as_bytes())?,
-        ["script", seed, count] => {
-            script::write(number(seed)?, number(count)?, out)?;
+        ["script", name] => match scripts::of_name(name) {
+            Some(script) => out.write_all(script.text.as_bytes())?,
+            None => return Ok(false),
+        },
+        ["script", seed, calls] => {
+            let script = chance::of_seed(number(seed)?, number(calls)?);
+            out.write_all(script.text.as_bytes())?;
         }
-        ["script-counts", seed, count] => {
-            let counts = script::write(number(seed)?, number(count)?, &mut io::sink())?;
-            write!(out, "{counts}")?;
+        ["obey"] => {
+            told::obey(io::stdin().lock(), out)?;
+        }
+        ["obey", file] => {
+            let counts = told::obey(io::stdin().lock(), out)?;
+            let mut lines = BufWriter::new(fs::File::create(file)?);
+            for (name, times) in counts.met() {
+                writeln!(lines, "{times} {name}")?;
+            }
+            lines.flush()?;
+        }
+        ["sum", files @ ..] => {
+            sum(files, out)?;
+        }
+        ["enough", files @ ..] => {
+            let missing = counts::missing(&sum(files, out)?);
+            if !missing.is_empty() {
+                return Err(io::Error::other(missing.join("; ")));
+            }
         }
         _ => return Ok(false),
     }
     Ok(true)
+}
+
+/// Writes what the counted scripts met together.
+fn sum(files: &[&str], out: &mut impl Write) -> io::Result<Met> {
+    let mut met = Met::new();
+    for file in files {
+        for line in fs::read_to_string(file)?.lines() {
+            let (times, name) = line.split_once(' ').ok_or(io::Error::other("no count"))?;
+            *met.entry(name.to_string()).or_default() += number(times)?;
+        }
+    }
+    for (name, times) in &met {
+        writeln!(out, "{times:>9} {name}")?;
+    }
+    Ok(met)
 }
 
 fn number(text: &str) -> io::Result<u64> {
@@ -86,28 +99,4 @@ fn numbered(text: &str) -> io::Result<u64> {
         return Ok(number);
     }
     Err(io::Error::other("no input of that number"))
-}
-
-/// Least, largest, level, error and spread of each bucket whose ends are two of the values.
-fn buckets() -> String {
-    let mut lines = String::new();
-    for (index, &least) in VALUES.iter().enumerate() {
-        for &largest in &VALUES[index..] {
-            let bucket = Bucket {
-                start: 0,
-                count: 2,
-                least,
-                largest,
-            };
-            writeln!(
-                lines,
-                "{least} {largest} {} {} {}",
-                bucket.level(),
-                bucket.error(),
-                bucket.spread()
-            )
-            .expect("a string takes any text");
-        }
-    }
-    lines
 }

@@ -1,213 +1,296 @@
-//! Traces that are fed with readings of which some are refused, each with a session tally; then their rows.
-//!
-//! A session is a kind, B and K, a tally to begin with, a beginning, an order of ticks and a number of readings; the room has 1,284 numbers.
-//! It begins with an open, or with a load of one record: start 0, count 16,777,214, least -3, largest 9. The readings are counted from 0, by
-//! turns. A value goes by the turn modulo 9: 0, 5, -3, the largest of 32 signed bits, 12, 12, the least of them, 7, -1. A tick is handed only to a
-//! late call, and the next one is made whether or not the reading is taken: up from 0; by 5 from 0, modulo 23; down from 16,777,215; by 89
-//! from 0, modulo 211.
-//!
-//! A reading goes to the call of the trace's kind. But the turns that leave 9 by 17 are asked of a state that counts a reading too many; of the
-//! others those that leave 5 by 11 go to the call of the other kind; of the others those that leave 7 by 13 have the tick 16,777,216.
-//!
-//! Each reading writes its turn, its answer and the tally after it. At the end the row is written, one line a bucket (start, count, least,
-//! largest) and one after the last, and what is answered to a row of the state that counts a reading too many; then what is answered to a row
-//! of as many places as there are buckets, of one less where there are any, and, of that state, of as many; then the tally beside the number
-//! of buckets.
+//! What a script has made so far, and how each command changes it and what it answers.
 
-use crate::calls::{self, Record, Refusal, State, Tally};
-use crate::rule::Kind;
-use std::fmt::Write;
+use crate::calls::{self, Held, Record, Refusal, State, Tally, RECORD_BYTES, SLOT};
+use crate::command::{Command, Name, Word};
+use crate::rule::{Bucket, Kind};
 
-const NUMBERS: usize = 1_284;
+/// Numbers of the whole room.
+pub const NUMBERS: usize = 8_192;
+/// Bytes of the whole file and of the whole output.
+pub const BYTES: usize = 65_536;
+/// Buckets of the whole row.
+pub const PLACES: usize = BYTES / RECORD_BYTES;
 
-#[derive(Clone, Copy)]
-enum Order {
-    Up,
-    ByFive,
-    Down,
-    ByMany,
-}
-
-#[derive(Clone, Copy)]
-enum Beginning {
-    Opened,
-    Loaded,
-}
-
-const FRESH: Tally = Tally {
-    accepted: 0,
-    refused: 0,
-    merges: 0,
+const NO_RECORD: Record = Record {
+    start: 0,
+    count: 0,
+    least: 0,
+    largest: 0,
 };
 
-/// Each count is a few readings before its stop.
-const NEARLY_FULL: Tally = Tally {
-    accepted: u32::MAX - 4,
-    refused: u32::MAX - 1,
-    merges: u32::MAX - 3,
-};
-
-/// Kind, B, K, tally, beginning, order, number of readings.
-type Session = (Kind, u64, u64, Tally, Beginning, Order, u32);
-
-fn sessions() -> [Session; 13] {
-    use Beginning::{Loaded, Opened};
-    use Kind::{InOrder, Late};
-    use Order::{ByFive, ByMany, Down, Up};
-    [
-        (InOrder, 1, 0, FRESH, Opened, Up, 40),
-        (InOrder, 2, 0, FRESH, Opened, Up, 40),
-        (InOrder, 32, 0, FRESH, Opened, Up, 200),
-        (InOrder, 2, 0, NEARLY_FULL, Opened, Up, 40),
-        (InOrder, 2, 0, FRESH, Loaded, Up, 12),
-        (Late, 1, 1, FRESH, Opened, Up, 40),
-        (Late, 1, 2, FRESH, Opened, ByFive, 60),
-        (Late, 2, 3, FRESH, Opened, ByFive, 60),
-        (Late, 3, 5, FRESH, Opened, Down, 40),
-        (Late, 2, 4, NEARLY_FULL, Opened, ByFive, 60),
-        (Late, 32, 8, FRESH, Opened, ByMany, 300),
-        (Late, 32, 256, FRESH, Opened, ByMany, 300),
-        (Late, 1, 2, FRESH, Loaded, Down, 12),
-    ]
+/// What a command answers.
+pub enum Answer {
+    State(Result<State, Refusal>),
+    Found(Result<Held, Refusal>),
+    Worst(Result<i64, Refusal>),
+    Wrote(Result<u64, Refusal>),
+    Number(i64),
+    Shown,
+    Nothing,
 }
 
-pub fn lines() -> String {
-    let mut lines = String::new();
-    for session in sessions() {
-        write_session(session, &mut lines).expect("a string takes any text");
-    }
-    lines
-}
-
-fn write_session(session: Session, lines: &mut String) -> std::fmt::Result {
-    let (kind, steps, gaps, mut tally, beginning, order, readings) = session;
-    let name = match kind {
-        Kind::InOrder => "in order",
-        Kind::Late => "late",
-    };
-    writeln!(lines, "{name} B {steps} K {gaps} from {}", counts(&tally))?;
-    let mut room = vec![0; NUMBERS];
-    let begun = match beginning {
-        Beginning::Opened => calls::open(kind, steps, gaps, &mut room),
-        Beginning::Loaded => calls::load(kind, steps, gaps, &nearly_all_ticks(), &mut room),
-    };
-    let mut state = match begun {
-        Ok(state) => state,
-        Err(refusal) => return writeln!(lines, "{}", refused(&refusal)),
-    };
-    for (turn, tick) in (0..readings).zip(ticks(order)) {
-        let answer = ask(state, &mut room, turn, tick, &mut tally);
-        let answered = match answer {
-            Ok(after) => {
-                state = after;
-                "taken".to_string()
-            }
-            Err(refusal) => refused(&refusal),
-        };
-        writeln!(lines, "reading {turn}: {answered}, {}", counts(&tally))?;
-    }
-    write_row(state, &room, lines)?;
-    writeln!(lines, "tally {} buckets {}", counts(&tally), state.used)
-}
-
-fn nearly_all_ticks() -> Vec<u8> {
-    let fields: [i32; 4] = [0, 16_777_214, -3, 9];
-    fields.into_iter().flat_map(i32::to_le_bytes).collect()
-}
-
-fn ticks(order: Order) -> Box<dyn Iterator<Item = u32>> {
-    match order {
-        Order::Up => Box::new(0..),
-        Order::ByFive => Box::new((0..).map(|turn| turn * 5 % 23)),
-        Order::Down => Box::new((0..=16_777_215).rev()),
-        Order::ByMany => Box::new((0..).map(|turn| turn * 89 % 211)),
-    }
-}
-
-fn ask(
-    state: State,
-    room: &mut [i64],
-    turn: u32,
-    tick: u32,
-    tally: &mut Tally,
-) -> Result<State, Refusal> {
-    let value = [0, 5, -3, i32::MAX, 12, 12, i32::MIN, 7, -1][turn as usize % 9];
-    let mut asked = state;
-    let mut late = state.kind == Kind::Late;
-    let mut tick = tick;
-    if turn % 17 == 9 {
-        asked = miscounted(state);
-    } else if turn % 11 == 5 {
-        late = !late;
-    } else if turn % 13 == 7 {
-        tick = 16_777_216;
-    }
-    if late {
-        calls::late_tallied(asked, room, tick, value, tally)
-    } else {
-        calls::next_tallied(asked, room, value, tally)
-    }
-}
-
-/// The state with a reading too many, which is not sound.
-fn miscounted(state: State) -> State {
-    State {
-        readings: state.readings + 1,
-        ..state
-    }
-}
-
-fn write_row(state: State, room: &[i64], lines: &mut String) -> std::fmt::Result {
-    let used = state.used as usize;
-    let mut row = places(used);
-    if calls::row(state, room, &mut row) == Ok(state.used) {
-        for record in row {
-            let Record {
-                start,
-                count,
-                least,
-                largest,
-            } = record;
-            writeln!(lines, "row {start} {count} {least} {largest}")?;
+impl Answer {
+    pub fn refusal(&self) -> Option<Refusal> {
+        match self {
+            Answer::State(answer) => answer.err(),
+            Answer::Found(answer) => answer.err(),
+            Answer::Worst(answer) => answer.err(),
+            Answer::Wrote(answer) => answer.err(),
+            Answer::Number(_) | Answer::Shown | Answer::Nothing => None,
         }
-        writeln!(lines, "row ends")?;
     }
-    if let Err(refusal) = calls::row(miscounted(state), room, &mut places(used)) {
-        writeln!(lines, "row {}", refused(&refusal))?;
+}
+
+pub struct Session {
+    pub state: State,
+    /// The kind as the script gave it; the state's kind is the one that it stands for.
+    pub kind: u64,
+    pub tally: Tally,
+    pub lent: usize,
+    pub room: Vec<i64>,
+    pub length: usize,
+    pub file: Vec<u8>,
+    pub row: Vec<Record>,
+    pub output: Vec<u8>,
+}
+
+impl Session {
+    pub fn new() -> Session {
+        Session {
+            state: State {
+                kind: Kind::InOrder,
+                steps: 0,
+                gaps: 0,
+                used: 0,
+                runs: 0,
+                readings: 0,
+            },
+            kind: 0,
+            tally: Tally::default(),
+            lent: 0,
+            room: vec![0; NUMBERS],
+            length: 0,
+            file: vec![0; BYTES],
+            row: vec![NO_RECORD; PLACES],
+            output: vec![0; BYTES],
+        }
     }
-    let mut answer = |state, number: usize| {
-        let answered = match calls::row(state, room, &mut places(number)) {
-            Ok(buckets) => buckets.to_string(),
-            Err(refusal) => refused(&refusal),
+
+    pub fn lent_numbers(&self) -> &[i64] {
+        &self.room[..self.lent]
+    }
+
+    pub fn lent_file(&self) -> &[u8] {
+        &self.file[..self.length]
+    }
+
+    /// Kind, B, K, slots in use, runs and readings of the state at hand.
+    pub fn fields(&self) -> [u64; 6] {
+        let State {
+            steps,
+            gaps,
+            used,
+            runs,
+            readings,
+            ..
+        } = self.state;
+        [self.kind, steps, gaps, used, runs, readings]
+    }
+
+    /// As the command gives it, or as it is at hand.
+    pub fn setting(&self, command: &Command, name: Name) -> u64 {
+        let fields = self.fields();
+        let at_hand = fields.get(name as usize).copied();
+        command.given(name).or(at_hand).unwrap_or(0)
+    }
+
+    pub fn obey(&mut self, command: &Command) -> Answer {
+        match command.word {
+            Word::Open | Word::Next | Word::Late | Word::NextTold | Word::LateTold | Word::Load => {
+                self.change(command)
+            }
+            Word::Lookup => {
+                let tick = command.number(Name::Tick) as u32;
+                Answer::Found(calls::lookup(self.state, self.lent_numbers(), tick))
+            }
+            Word::Worst => Answer::Worst(calls::worst(self.state, self.lent_numbers())),
+            Word::Row => {
+                let places = at_most(command.number(Name::Places), PLACES);
+                let room = &self.room[..self.lent];
+                Answer::Wrote(calls::row(self.state, room, &mut self.row[..places]))
+            }
+            Word::Save => {
+                let bytes = at_most(command.number(Name::Bytes), BYTES);
+                let room = &self.room[..self.lent];
+                Answer::Wrote(calls::save(self.state, room, &mut self.output[..bytes]))
+            }
+            Word::Level => Answer::Number(bucket(command).level()),
+            Word::Error => Answer::Number(bucket(command).error()),
+            Word::Show => Answer::Shown,
+            _ => {
+                self.prepare(command);
+                Answer::Nothing
+            }
+        }
+    }
+
+    /// A call that answers a state.
+    fn change(&mut self, command: &Command) -> Answer {
+        let kind = kind_of(self.setting(command, Name::Kind));
+        let steps = self.setting(command, Name::Steps);
+        let gaps = self.setting(command, Name::Gaps);
+        let room = &mut self.room[..self.lent];
+        let tick = command.number(Name::Tick) as u32;
+        let value = command.number(Name::Value) as i32;
+        let answer = match command.word {
+            Word::Open => calls::open(kind, steps, gaps, room),
+            Word::Load => calls::load(kind, steps, gaps, &self.file[..self.length], room),
+            Word::Next => calls::next(self.state, room, value),
+            Word::Late => calls::late(self.state, room, tick, value),
+            Word::NextTold => calls::next_tallied(self.state, room, value, &mut self.tally),
+            _ => calls::late_tallied(self.state, room, tick, value, &mut self.tally),
         };
-        writeln!(lines, "row of {number}: {answered}")
-    };
-    answer(state, used)?;
-    if used > 0 {
-        answer(state, used - 1)?;
+        if let Ok(after) = answer {
+            self.kind = after.kind as u64;
+            self.state = after;
+        }
+        Answer::State(answer)
     }
-    answer(miscounted(state), used)
+
+    /// A change to what calls are given.
+    fn prepare(&mut self, command: &Command) {
+        let number = |name| command.number(name);
+        match command.word {
+            Word::State => self.set_state(command),
+            Word::Tally => self.set_tally(command),
+            Word::Room => self.lent = at_most(number(Name::Numbers), NUMBERS),
+            Word::Fill => self.room[..self.lent].fill(number(Name::Value) as i64),
+            Word::Set => {
+                let at = at_most(number(Name::At), NUMBERS);
+                if let Some(there) = self.room.get_mut(at) {
+                    *there = number(Name::Value) as i64;
+                }
+            }
+            Word::Slot => {
+                let at = at_most(number(Name::At), NUMBERS / SLOT);
+                for (there, name) in self.room.iter_mut().skip(at * SLOT).zip(FIELDS) {
+                    *there = number(name) as i64;
+                }
+            }
+            Word::File => self.length = at_most(number(Name::Bytes), BYTES),
+            Word::Byte => {
+                let at = at_most(number(Name::At), BYTES);
+                if let Some(there) = self.file.get_mut(at) {
+                    *there = number(Name::Value) as u8;
+                }
+            }
+            Word::Record => {
+                let at = at_most(number(Name::At), PLACES);
+                let fields = FIELDS.map(|name| (number(name) as u32).to_le_bytes());
+                let there = self.file.iter_mut().skip(at * RECORD_BYTES);
+                for (there, byte) in there.zip(fields.as_flattened()) {
+                    *there = *byte;
+                }
+            }
+            Word::Copy => {
+                let [from, to, count] = [Name::From, Name::To, Name::Count]
+                    .map(|name| at_most(number(name), PLACES + 1) * RECORD_BYTES);
+                if from.max(to) + count <= BYTES {
+                    self.file.copy_within(from..from + count, to);
+                }
+            }
+            Word::Take => {
+                self.length = at_most(number(Name::Bytes), BYTES);
+                self.file[..self.length].copy_from_slice(&self.output[..self.length]);
+            }
+            _ => self.blank(
+                at_most(number(Name::Bytes), BYTES),
+                number(Name::Value) as u8,
+            ),
+        }
+    }
+
+    fn set_state(&mut self, command: &Command) {
+        self.kind = self.setting(command, Name::Kind);
+        self.state = State {
+            kind: kind_of(self.kind),
+            steps: self.setting(command, Name::Steps),
+            gaps: self.setting(command, Name::Gaps),
+            used: self.setting(command, Name::Used),
+            runs: self.setting(command, Name::Runs),
+            readings: self.setting(command, Name::Readings),
+        };
+    }
+
+    fn set_tally(&mut self, command: &Command) {
+        let set = |count: &mut u32, name| {
+            if let Some(number) = command.given(name) {
+                *count = number as u32;
+            }
+        };
+        set(&mut self.tally.accepted, Name::Accepted);
+        set(&mut self.tally.refused, Name::Refused);
+        set(&mut self.tally.merges, Name::Merges);
+    }
+
+    fn blank(&mut self, bytes: usize, byte: u8) {
+        self.output[..bytes].fill(byte);
+        for (index, record) in self.row.iter_mut().enumerate() {
+            let left = bytes.saturating_sub(index * RECORD_BYTES);
+            if left == 0 {
+                return;
+            }
+            let mut lying = record_bytes(record);
+            lying[..left.min(RECORD_BYTES)].fill(byte);
+            *record = record_of_bytes(&lying);
+        }
+    }
 }
 
-fn places(number: usize) -> Vec<Record> {
-    let empty = Record {
-        start: 0,
-        count: 0,
-        least: 0,
-        largest: 0,
-    };
-    vec![empty; number]
+impl Default for Session {
+    fn default() -> Session {
+        Session::new()
+    }
 }
 
-fn refused(refusal: &Refusal) -> String {
-    format!("refused {}", refusal.number)
+const FIELDS: [Name; SLOT] = [Name::Start, Name::Count, Name::Least, Name::Largest];
+
+fn at_most(number: u64, most: usize) -> usize {
+    number.min(most as u64) as usize
 }
 
-fn counts(tally: &Tally) -> String {
-    let Tally {
-        accepted,
-        refused,
-        merges,
-    } = tally;
-    format!("accepted {accepted} refused {refused} merges {merges}")
+fn kind_of(number: u64) -> Kind {
+    match number {
+        0 => Kind::InOrder,
+        _ => Kind::Late,
+    }
+}
+
+fn bucket(command: &Command) -> Bucket {
+    Bucket {
+        start: u64::from(command.number(Name::Start) as u32),
+        count: u64::from(command.number(Name::Count) as u32),
+        least: i64::from(command.number(Name::Least) as i32),
+        largest: i64::from(command.number(Name::Largest) as i32),
+    }
+}
+
+/// As a record lies in memory, and in a saved file.
+pub fn record_bytes(record: &Record) -> [u8; RECORD_BYTES] {
+    let mut bytes = [0; RECORD_BYTES];
+    bytes[0..4].copy_from_slice(&record.start.to_le_bytes());
+    bytes[4..8].copy_from_slice(&record.count.to_le_bytes());
+    bytes[8..12].copy_from_slice(&record.least.to_le_bytes());
+    bytes[12..16].copy_from_slice(&record.largest.to_le_bytes());
+    bytes
+}
+
+pub fn record_of_bytes(bytes: &[u8]) -> Record {
+    let field = |at: usize| [bytes[at], bytes[at + 1], bytes[at + 2], bytes[at + 3]];
+    Record {
+        start: u32::from_le_bytes(field(0)),
+        count: u32::from_le_bytes(field(4)),
+        least: i32::from_le_bytes(field(8)),
+        largest: i32::from_le_bytes(field(12)),
+    }
 }

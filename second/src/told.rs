@@ -1,180 +1,183 @@
-//! The lines that obeyed commands write, in the two forms that their table describes.
+//! The lines that an obeyed script writes.
 
-use crate::commands::{Answer, Command, Session, COMMAND_BYTES};
-use crate::commands::{GAPS, KIND, READINGS, RUNS, STEPS, USED};
-use crate::commands::{LATE, LOAD, NEXT, OPEN, PRINT, ROW, SAVE};
-use std::io::{self, BufReader, ErrorKind, Read, Write};
+use crate::calls::{State, SLOT};
+use crate::command::{Command, Name, Word};
+use crate::counts::Counts;
+use crate::session::{Answer, Session, BYTES, PLACES};
+use std::io::{self, BufRead, Write};
 
 /// So much text is gathered before it is written.
 const GATHERED: usize = 65_536;
 
-#[derive(Clone, Copy, PartialEq, Eq)]
-pub enum Form {
-    Checksums,
-    Whole,
-}
-
-/// Obeys every whole command and answers all the lines.
-pub fn lines(form: Form, input: &[u8]) -> String {
-    let mut text = Vec::new();
-    obey_all(form, input, &mut text).expect("memory takes any text");
-    String::from_utf8(text).expect("only ASCII is written")
-}
-
-/// Obeys every whole command and writes the lines as it goes.
-pub fn obey_all(form: Form, input: impl Read, out: &mut impl Write) -> io::Result<()> {
-    let mut input = BufReader::new(input);
+/// Obeys a whole script, writes the lines as it goes, and answers what was met.
+pub fn obey(script: impl BufRead, out: &mut impl Write) -> io::Result<Counts> {
     let mut session = Session::new();
+    let mut counts = Counts::default();
     let mut text = Vec::new();
-    let mut bytes = [0; COMMAND_BYTES];
-    while whole_command(&mut input, &mut bytes)? {
-        session.obey(
-            &Command::of_bytes(&bytes),
-            &mut |session, command, answer| line(form, session, command, answer, &mut text),
-        );
+    for line in script.lines() {
+        let line = line?;
+        match Command::of_line(&line).map_err(io::Error::other)? {
+            None => counts.heading(&line),
+            Some(command) => {
+                let answer = session.obey(&command);
+                counts.after(&session, &command, &answer);
+                write_line(&session, &command, &answer, &mut text);
+            }
+        }
         if text.len() >= GATHERED {
             out.write_all(&text)?;
             text.clear();
         }
     }
-    out.write_all(&text)
+    out.write_all(&text)?;
+    Ok(counts)
 }
 
-fn whole_command(input: &mut impl Read, bytes: &mut [u8; COMMAND_BYTES]) -> io::Result<bool> {
-    match input.read_exact(bytes) {
-        Err(error) if error.kind() == ErrorKind::UnexpectedEof => Ok(false),
-        read => read.map(|()| true),
+/// The lines of a script in memory.
+pub fn lines(script: &str) -> String {
+    let mut text = Vec::new();
+    obey(script.as_bytes(), &mut text).expect("a script, and memory that takes any text");
+    String::from_utf8(text).expect("only ASCII is written")
+}
+
+fn write_line(session: &Session, command: &Command, answer: &Answer, text: &mut Vec<u8>) {
+    if matches!(answer, Answer::Nothing) {
+        return;
     }
-}
-
-fn line(form: Form, session: &Session, command: &Command, answer: &Answer, text: &mut Vec<u8>) {
-    numbers(text, [u64::from(command.opcode)]);
+    text.extend(command.word.text().bytes());
     match answer {
-        Answer::Accepted => {
-            text.extend(b"accepted ");
-            facts(text, session);
-        }
-        Answer::Wrote(buckets) => {
-            text.extend(b"accepted ");
-            numbers(text, [*buckets]);
-        }
-        Answer::Found(held) => {
-            text.extend(b"found ");
-            for number in [held.level, held.error, held.least, held.largest] {
-                if number < 0 {
-                    text.push(b'-');
-                }
-                numbers(text, [number.unsigned_abs()]);
-            }
-        }
-        Answer::Refused(refusal) => {
-            text.extend(b"refused ");
-            numbers(text, [u64::from(refusal.number), refusal.place]);
-            match command.opcode {
-                NEXT | LATE if form == Form::Whole => facts(text, session),
-                OPEN | LOAD if form == Form::Whole => numbers(text, [0; 6]),
-                _ => {}
-            }
-        }
-        Answer::Printed => {
-            facts(text, session);
+        Answer::Number(number) => signed(text, *number),
+        Answer::Shown => {
+            numbers(text, &session.fields());
             for &number in session.lent_numbers() {
-                bits(text, number);
-                text.push(b' ');
+                signed(text, number);
             }
         }
-    }
-    if form == Form::Whole && command.opcode != PRINT {
-        lent(text, session, command);
-    } else {
-        checksums(text, session, command);
+        _ => {
+            answered(session, command, answer, text);
+            lent(session, command, text);
+        }
     }
     text.push(b'\n');
 }
 
-fn lent(text: &mut Vec<u8>, session: &Session, command: &Command) {
-    apart(text, session.lent_numbers());
-    if command.opcode == ROW {
-        text.push(b' ');
-        apart(text, session.lent_row(command));
+/// Refusal, place, and what is handed back.
+fn answered(session: &Session, command: &Command, answer: &Answer, text: &mut Vec<u8>) {
+    match answer.refusal() {
+        Some(refusal) => numbers(text, &[u64::from(refusal.number), refusal.place]),
+        None => numbers(text, &[0, 0]),
     }
-    if command.opcode == SAVE {
-        text.push(b' ');
-        for &byte in session.lent_file(command) {
-            hex(text, u64::from(byte), 2);
-        }
-    }
-}
-
-fn checksums(text: &mut Vec<u8>, session: &Session, command: &Command) {
-    let of_numbers = |all: &[i64]| checksum(all.iter().map(|&number| number as u64));
-    hex(text, of_numbers(session.lent_numbers()), 16);
-    if command.opcode == ROW {
-        text.push(b' ');
-        hex(text, of_numbers(&session.row), 16);
-    }
-    if command.opcode == SAVE {
-        text.push(b' ');
-        hex(
-            text,
-            checksum(session.file.iter().copied().map(u64::from)),
-            16,
-        );
-    }
-}
-
-/// Kind, B, K, slots in use, runs, readings.
-fn facts(text: &mut Vec<u8>, session: &Session) {
-    numbers(
-        text,
-        [KIND, STEPS, GAPS, USED, RUNS, READINGS].map(|which| session.fact(which)),
-    );
-}
-
-/// In decimal, a space after each.
-fn numbers<const COUNT: usize>(text: &mut Vec<u8>, all: [u64; COUNT]) {
-    for mut number in all {
-        let mut digits = [0; 20];
-        let mut at = digits.len();
-        loop {
-            at -= 1;
-            digits[at] = b'0' + (number % 10) as u8;
-            number /= 10;
-            if number == 0 {
-                break;
+    match answer {
+        Answer::State(Ok(after)) => numbers(text, &fields(after)),
+        Answer::State(Err(_)) => match command.word {
+            Word::Open | Word::Load => numbers(text, &[0; 6]),
+            _ => numbers(text, &session.fields()),
+        },
+        Answer::Found(found) => {
+            let shown = found.map_or([0; 4], |held| {
+                [held.level, held.error, held.least, held.largest]
+            });
+            for number in shown {
+                signed(text, number);
             }
         }
-        text.extend_from_slice(&digits[at..]);
-        text.push(b' ');
+        Answer::Worst(worst) => signed(text, worst.unwrap_or(0)),
+        Answer::Wrote(buckets) => numbers(text, &[buckets.unwrap_or(0)]),
+        Answer::Number(_) | Answer::Shown | Answer::Nothing => {}
     }
 }
 
-/// In hex, a space between.
-fn apart(text: &mut Vec<u8>, all: &[i64]) {
-    for (index, &number) in all.iter().enumerate() {
-        if index > 0 {
-            text.push(b' ');
+fn fields(state: &State) -> [u64; 6] {
+    let kind = state.kind as u64;
+    [
+        kind,
+        state.steps,
+        state.gaps,
+        state.used,
+        state.runs,
+        state.readings,
+    ]
+}
+
+fn lent(session: &Session, command: &Command, text: &mut Vec<u8>) {
+    let room = session.lent_numbers();
+    let of_room = checksum(room.len(), room.iter().map(|&number| number as u64));
+    sum(text, b" room ", of_room);
+    match command.word {
+        Word::NextTold | Word::LateTold => {
+            let tally = &session.tally;
+            text.extend(b" tally");
+            numbers(
+                text,
+                &[tally.accepted, tally.refused, tally.merges].map(u64::from),
+            );
         }
-        bits(text, number);
+        Word::Row => {
+            let places = command.number(Name::Places).min(PLACES as u64) as usize;
+            let fields = session.row[..places].iter().flat_map(|record| {
+                let [start, count] = [record.start, record.count].map(u64::from);
+                let [least, largest] = [record.least, record.largest].map(i64::from);
+                [start, count, least as u64, largest as u64]
+            });
+            sum(text, b" row ", checksum(places * SLOT, fields));
+        }
+        Word::Save => {
+            let bytes = command.number(Name::Bytes).min(BYTES as u64) as usize;
+            sum(text, b" output ", of_bytes(&session.output[..bytes]));
+        }
+        Word::Load => sum(text, b" file ", of_bytes(session.lent_file())),
+        _ => {}
     }
 }
 
-fn bits(text: &mut Vec<u8>, number: i64) {
-    let number = number as u64;
-    let bits = u64::BITS - number.leading_zeros();
-    hex(text, number, bits.div_ceil(4).max(1));
+fn of_bytes(bytes: &[u8]) -> u64 {
+    checksum(bytes.len(), bytes.iter().copied().map(u64::from))
 }
 
-fn hex(text: &mut Vec<u8>, number: u64, digits: u32) {
-    for digit in (0..digits).rev() {
-        let value = (number >> (4 * digit)) as usize % 16;
+fn sum(text: &mut Vec<u8>, what: &[u8], sum: u64) {
+    text.extend(what);
+    for digit in (0..16).rev() {
+        let value = (sum >> (4 * digit)) as usize % 16;
         text.push(b"0123456789abcdef"[value]);
     }
 }
 
-/// From the first number to the last: the sum so far times 31, plus the number, modulo 2^64.
-fn checksum(numbers: impl Iterator<Item = u64>) -> u64 {
-    numbers.fold(0, |sum: u64, number| {
-        sum.wrapping_mul(31).wrapping_add(number)
+/// In decimal, a space before each.
+fn numbers(text: &mut Vec<u8>, all: &[u64]) {
+    for &number in all {
+        text.push(b' ');
+        decimal(text, number);
+    }
+}
+
+fn signed(text: &mut Vec<u8>, number: i64) {
+    text.push(b' ');
+    if number < 0 {
+        text.push(b'-');
+    }
+    decimal(text, number.unsigned_abs());
+}
+
+fn decimal(text: &mut Vec<u8>, mut number: u64) {
+    let mut digits = [0; 20];
+    let mut at = digits.len();
+    loop {
+        at -= 1;
+        digits[at] = b'0' + (number % 10) as u8;
+        number /= 10;
+        if number == 0 {
+            break;
+        }
+    }
+    text.extend_from_slice(&digits[at..]);
+}
+
+pub fn checksum(count: usize, numbers: impl Iterator<Item = u64>) -> u64 {
+    numbers.fold(count as u64, |sum, number| {
+        let mut mixed = sum ^ number;
+        mixed ^= mixed << 13;
+        mixed ^= mixed >> 7;
+        mixed ^= mixed << 17;
+        mixed.wrapping_add(11_400_714_819_323_198_485)
     })
 }

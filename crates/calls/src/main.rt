@@ -1,21 +1,31 @@
-// Obeys commands of 16 bytes from standard input, each a call of a trace or a change to what it is lent, and writes what every call answers and leaves.
-mod command;
-mod shape;
+// Obeys a short script from standard input and writes what every call answers and leaves. The language is the one that second/src/command.rs
+// describes; obeyed are the calls but for the row and the readings with a tally, and of the changes state, room, set, file, byte and take.
+mod line;
 mod show;
 
 ghost use Prim.Native.Nat.{_≤_};
-use command::Command;
-use rule::Found;
+use line::AT;
+use line::BYTES;
+use line::NUMBERS;
+use line::Reading;
+use line::TICK;
+use line::VALUE;
 use rule::Kind;
 use rule::Settings;
 use rule::State;
 use trace::Answer;
 use trace::Trace;
 
-// The facts are kind, B, K, slots in use, runs and readings of the state, then how many numbers of the room are lent.
-const FACTS: [usize; 7] = [0, 0, 0, 0, 0, 0, 0];
+// What the script has made besides the lent arrays: the state at hand, how many numbers of the room are lent and how many bytes of the file,
+// and the line so far.
+pub struct Held {
+    pub trace: Trace,
+    pub numbers: usize,
+    pub bytes: usize,
+    pub reading: Reading,
+}
 
-fn kind_of(number: usize) -> Kind {
+fn kind_of(number: u64) -> Kind {
     if number == 0 {
         Kind::InOrder
     } else {
@@ -23,39 +33,45 @@ fn kind_of(number: usize) -> Kind {
     }
 }
 
-fn number_of(kind: Kind) -> usize {
-    match kind {
-        Kind::InOrder => 0,
-        Kind::Late => 1,
+fn settings_of(given: &[u64; 12]) -> Settings {
+    let kind = kind_of(given[0]);
+    Settings {
+        kind,
+        steps: given[1] as usize,
+        gaps: given[2] as usize,
     }
 }
 
-fn trace_of(facts: &[usize; 7]) -> Trace {
-    let kind = kind_of(facts[0]);
+fn trace_of(given: &[u64; 12]) -> Trace {
     Trace {
         state: State {
-            settings: Settings {
-                kind,
-                steps: facts[1],
-                gaps: facts[2],
-            },
-            used: facts[3],
-            runs: facts[4],
-            readings: facts[5],
+            settings: settings_of(given),
+            used: given[3] as usize,
+            runs: given[4] as usize,
+            readings: given[5] as usize,
         },
     }
 }
 
-fn keep(facts: &mut [usize; 7], trace: Trace) {
+// What names that are not given stand for: the state at hand, else 0.
+fn at_hand(trace: Trace) -> [u64; 12] {
     let state = trace.state;
     let settings = state.settings;
     let kind = settings.kind;
-    facts[0] = number_of(kind);
-    facts[1] = settings.steps;
-    facts[2] = settings.gaps;
-    facts[3] = state.used;
-    facts[4] = state.runs;
-    facts[5] = state.readings;
+    [
+        show::number_of(kind) as u64,
+        settings.steps as u64,
+        settings.gaps as u64,
+        state.used as u64,
+        state.runs as u64,
+        state.readings as u64,
+        0,
+        0,
+        0,
+        0,
+        0,
+        0,
+    ]
 }
 
 fn least(a: usize, b: usize) -> usize
@@ -64,215 +80,223 @@ fn least(a: usize, b: usize) -> usize
     if a < b { a } else { b }
 }
 
-// Any number at any index: how an unsound room is made.
-fn poke(c: Command, room: &mut [i64]) {
-    let index = c.first as usize;
-    if index < room.len() {
-        let number = command::signed64(c.long());
-        room[index] = number;
+// The number that the bits stand for in two's complement.
+fn signed64(bits: u64) -> i64 {
+    if bits < 9223372036854775808 {
+        bits as i64
+    } else {
+        -1 - (18446744073709551615 - bits) as i64
     }
 }
 
-// Any number as any fact: how an unsound state is made.
-fn set(c: Command, facts: &mut [usize; 7]) {
-    let which = c.choice as usize;
-    if which < 7 {
-        facts[which] = c.long() as usize;
+fn signed32(bits: u32) -> i32 {
+    if bits < 2147483648 {
+        bits as i32
+    } else {
+        -1 - (4294967295 - bits) as i32
     }
 }
 
-// The facts after a call: those of the trace where it was accepted.
-fn taken(answer: Answer, facts: &mut [usize; 7]) {
-    if let Answer::Accepted(trace) = answer {
-        keep(facts, trace);
-    }
+fn value(given: &[u64; 12]) -> i32 {
+    signed32((given[VALUE] % 4294967296) as u32)
 }
 
-fn tell(opcode: u8, answer: Answer, facts: &[usize; 7], room: &[i64]) {
-    show::unsigned(opcode as u64, b" ");
+fn tick(given: &[u64; 12]) -> u32 {
+    (given[TICK] % 4294967296) as u32
+}
+
+// The trace after a call: that of an accepted answer.
+fn taken(trace: Trace, answer: Answer) -> Trace {
     match answer {
-        Answer::Accepted(_) => show::accepted(facts),
-        Answer::Refused(refusal) => show::refused(refusal),
-    }
-    show::checksum(room);
-}
-
-fn open(c: Command, facts: &mut [usize; 7], room: &mut [i64]) {
-    let kind = kind_of(c.choice as usize);
-    let settings = Settings {
-        kind,
-        steps: c.first as usize,
-        gaps: c.second as usize,
-    };
-    let answer = Trace::open(settings, &mut *room);
-    taken(answer, facts);
-    tell(1, answer, facts, room);
-}
-
-fn next(opcode: u8, value: i32, told: bool, facts: &mut [usize; 7], room: &mut [i64]) {
-    let answer = trace_of(facts).next(&mut *room, value);
-    taken(answer, facts);
-    if told {
-        tell(opcode, answer, facts, room);
+        Answer::Accepted(next) => next,
+        Answer::Refused(_) => trace,
     }
 }
 
-fn late(opcode: u8, tick: u32, value: i32, told: bool, facts: &mut [usize; 7], room: &mut [i64]) {
-    let answer = trace_of(facts).late(&mut *room, tick, value);
-    taken(answer, facts);
-    if told {
-        tell(opcode, answer, facts, room);
+fn put(room: &mut [i64], at: usize, bits: u64) {
+    if at < room.len() {
+        let number = signed64(bits);
+        room[at] = number;
     }
 }
 
-fn lookup(opcode: u8, tick: u32, facts: &[usize; 7], room: &[i64]) {
-    let found = trace_of(facts).lookup(room, tick);
-    show::unsigned(opcode as u64, b" ");
-    match found {
-        Found::Level {
-            level,
-            error,
-            least,
-            largest,
-        } => show::found(level, error, least, largest),
-        Found::Refused(refusal) => show::refused(refusal),
-    }
-    show::checksum(room);
-}
-
-// One reading of a feed, in order or late.
-fn fed(c: Command, turn: u32, noise: u32, facts: &mut [usize; 7], room: &mut [i64]) {
-    let value = shape::reading(c.choice, c.second, turn, noise);
-    let told = shape::told(turn, c.first, c.third);
-    if c.opcode == 8 {
-        next(8, value, told, facts, room);
-        return;
-    }
-    late(
-        9,
-        shape::tick(c.order, turn, noise),
-        value,
-        told,
-        facts,
-        room,
-    );
-}
-
-// Readings of a shape; what every so many of them and the last one leave is written.
-fn feed(c: Command, facts: &mut [usize; 7], room: &mut [i64]) {
-    let count = c.first;
-    let mut noise = c.second;
-    let mut turn = 0;
-    while turn < count {
-        noise = shape::stirred(noise);
-        fed(c, turn, noise, facts, room);
-        turn += 1;
+fn put_byte(file: &mut [u8], at: usize, bits: u64) {
+    if at < file.len() {
+        file[at] = (bits % 256) as u8;
     }
 }
 
-// Late readings at the ticks that the command lists, each the square wave's at its tick; what the last one leaves is written.
-fn list(c: Command, facts: &mut [usize; 7], room: &mut [i64]) {
-    let count = least(c.choice as usize, 7);
-    let mut turn = 0;
-    while turn < count {
-        let tick = c.tick(turn);
-        turn += 1;
-        late(11, tick, shape::square_at(tick), turn == count, facts, room);
-    }
-}
-
-// Lookups a step apart.
-fn sweep(c: Command, facts: &[usize; 7], room: &[i64]) {
-    let count = c.third;
-    let mut tick = c.first;
-    let mut turn = 0;
-    while turn < count {
-        lookup(10, tick, facts, room);
-        tick = std::num::wrapping_add_u32(tick, c.second);
-        turn += 1;
-    }
-}
-
-// A call on the lent part of the room.
-fn call(c: Command, facts: &mut [usize; 7], room: &mut [i64]) {
-    let opcode = c.opcode;
-    if opcode == 1 {
-        open(c, facts, room);
-        return;
-    }
-    if opcode == 2 {
-        next(2, command::signed32(c.first), true, facts, room);
-        return;
-    }
-    if opcode == 3 {
-        late(3, c.first, command::signed32(c.second), true, facts, room);
-        return;
-    }
-    if opcode == 4 {
-        lookup(4, c.first, facts, room);
-        return;
-    }
-    if opcode == 7 {
-        show::whole(facts, room);
-        return;
-    }
-    if opcode == 8 || opcode == 9 {
-        feed(c, facts, room);
-        return;
-    }
-    if opcode == 10 {
-        sweep(c, facts, room);
-        return;
-    }
-    if opcode == 11 {
-        list(c, facts, room);
-    }
-}
-
-// An open lends as many numbers as it names.
-fn lend(c: Command, facts: &mut [usize; 7]) {
-    if c.opcode == 1 {
-        facts[6] = c.third as usize;
-    }
-}
-
-fn obey(c: Command, facts: &mut [usize; 7], room: &mut [i64]) {
-    let opcode = c.opcode;
-    if opcode == 5 {
-        poke(c, room);
-        return;
-    }
-    if opcode == 6 {
-        set(c, facts);
-        return;
-    }
-    lend(c, facts);
-    let lent = least(facts[6], room.len());
-    call(c, facts, &mut room[0..lent]);
-}
-
-// Every whole command of one piece of the input.
-fn run(input: &[u8], facts: &mut [usize; 7], room: &mut [i64]) {
-    let mut at = 0;
-    while at + 16 <= input.len() {
-        obey(command::read(input, at), facts, room);
-        at += 16;
-    }
-}
-
-// A piece is full unless the input ends in it, so each but the last is a number of whole commands.
-fn main() {
-    let mut facts = FACTS;
-    let mut room = [0i64; 4096];
-    let mut piece = io::large_buffer();
-    let mut turns: u64 = 18446744073709551615;
-    while 0 < turns {
-        let count = io::read_full(libc::STDIN_FILENO, &mut piece);
-        if count == 0 {
-            turns = 0;
-        } else {
-            run(&piece[0..count], &mut facts, &mut room);
-            turns -= 1;
+// File and output have 65,536 bytes each.
+fn take(file: &mut [u8], output: &[u8], count: usize) {
+    if count <= file.len() {
+        if count <= output.len() {
+            bytes::copy(&output[0..count], &mut file[0..count]);
         }
     }
+}
+
+fn call(word: u64, given: &[u64; 12], trace: Trace, room: &mut [i64], file: &[u8]) -> Answer {
+    match word {
+        line::OPEN => Trace::open(settings_of(given), &mut *room),
+        line::NEXT => trace.next(&mut *room, value(given)),
+        line::LATE => trace.late(&mut *room, tick(given), value(given)),
+        _ => saved::load(settings_of(given), file, &mut *room),
+    }
+}
+
+// A reading, which hands back the trace that it was given where it is refused.
+fn read_on(word: u64, given: &[u64; 12], trace: Trace, room: &mut [i64]) -> Trace {
+    let answer = call(word, given, trace, room, b"");
+    show::answer(word, trace, answer);
+    show::numbers(b" room ", room);
+    show::text(b"\n");
+    taken(trace, answer)
+}
+
+// An open or a load, which has none to hand back.
+fn begin(word: u64, given: &[u64; 12], trace: Trace, room: &mut [i64], file: &[u8]) -> Trace {
+    let answer = call(word, given, trace, room, file);
+    show::answer(word, trace_of(&[0; 12]), answer);
+    show::numbers(b" room ", room);
+    if word == line::LOAD {
+        show::bytes(b" file ", file);
+    }
+    show::text(b"\n");
+    taken(trace, answer)
+}
+
+// What hands back a trace.
+fn go_on(word: u64, given: &[u64; 12], trace: Trace, room: &mut [i64], file: &[u8]) -> Trace {
+    match word {
+        line::NEXT => read_on(word, given, trace, room),
+        line::LATE => read_on(word, given, trace, room),
+        line::OPEN => begin(word, given, trace, room, file),
+        line::LOAD => begin(word, given, trace, room, file),
+        line::STATE => trace_of(given),
+        _ => trace,
+    }
+}
+
+// A call that leaves the trace.
+fn ask(word: u64, given: &[u64; 12], trace: Trace, room: &[i64], output: &mut [u8]) {
+    if word == line::LOOKUP {
+        show::found(trace.lookup(room, tick(given)));
+        show::numbers(b" room ", room);
+        show::text(b"\n");
+        return;
+    }
+    if word == line::SAVE {
+        let count = least(given[BYTES] as usize, output.len());
+        show::written(saved::save(trace, room, &mut output[0..count]));
+        show::numbers(b" room ", room);
+        show::bytes(b" output ", &output[0..count]);
+        show::text(b"\n");
+        return;
+    }
+    if word == line::WORST {
+        show::worst(worst::worst(trace, room));
+        show::numbers(b" room ", room);
+        show::text(b"\n");
+    }
+}
+
+fn change(word: u64, given: &[u64; 12], room: &mut [i64], file: &mut [u8], output: &[u8]) {
+    if word == line::SET {
+        put(room, given[AT] as usize, given[VALUE]);
+        return;
+    }
+    if word == line::BYTE {
+        put_byte(file, given[AT] as usize, given[VALUE]);
+        return;
+    }
+    if word == line::TAKE {
+        take(file, output, least(given[BYTES] as usize, 65536));
+    }
+}
+
+// How much is lent from now on.
+fn lent(word: u64, given: &[u64; 12], held: Held) -> Held {
+    let mut next = held;
+    if word == line::ROOM {
+        next.numbers = given[NUMBERS] as usize;
+    }
+    if word == line::FILE || word == line::TAKE {
+        next.bytes = given[BYTES] as usize;
+    }
+    next
+}
+
+fn obey(
+    word: u64,
+    given: &[u64; 12],
+    held: Held,
+    room: &mut [i64],
+    file: &mut [u8],
+    output: &mut [u8],
+) -> Held {
+    change(word, given, room, file, output);
+    let mut next = lent(word, given, held);
+    let numbers = least(next.numbers, room.len());
+    let bytes = least(next.bytes, file.len());
+    ask(word, given, next.trace, &room[0..numbers], output);
+    next.trace = go_on(
+        word,
+        given,
+        next.trace,
+        &mut room[0..numbers],
+        &file[0..bytes],
+    );
+    next
+}
+
+// One byte of the script: within a word or a number, behind one, or at the end of a line, which is then obeyed.
+fn turn(
+    byte: u8,
+    held: Held,
+    given: &mut [u64; 12],
+    room: &mut [i64],
+    file: &mut [u8],
+    output: &mut [u8],
+) -> Held {
+    let reading = held.reading;
+    let mut next = held;
+    if byte == 10 {
+        line::put(given, reading);
+        next = obey(reading.ended().word, given, held, room, file, output);
+        *given = at_hand(next.trace);
+        next.reading = line::nothing();
+        return next;
+    }
+    if byte == 32 {
+        line::put(given, reading);
+        next.reading = reading.ended();
+        return next;
+    }
+    next.reading = reading.with(byte);
+    next
+}
+
+fn run(script: &[u8], room: &mut [i64], file: &mut [u8], output: &mut [u8]) {
+    let mut given = [0; 12];
+    let mut held = Held {
+        trace: trace_of(&given),
+        numbers: 0,
+        bytes: 0,
+        reading: line::nothing(),
+    };
+    let mut i = 0;
+    while i < script.len() {
+        let byte = script[i];
+        i += 1;
+        held = turn(byte, held, &mut given, room, file, output);
+    }
+}
+
+fn main() {
+    let mut room = [0i64; 8192];
+    let mut file = [0u8; 65536];
+    let mut output = [0u8; 65536];
+    let mut script = io::large_buffer();
+    let count = io::read_full(libc::STDIN_FILENO, &mut script);
+    run(&script[0..count], &mut room, &mut file, &mut output);
 }

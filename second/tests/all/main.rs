@@ -2,14 +2,13 @@
 
 mod arrivals;
 mod best_curve;
-mod commands;
 mod files;
 mod hand;
+mod language;
 mod lines;
 mod refusals;
 mod round_trips;
 mod script;
-mod session;
 mod sound;
 mod support;
 mod wrong_ways;

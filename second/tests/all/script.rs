@@ -1,61 +1,112 @@
-//! Scripts by chance try what they are meant to, and are obeyed as they were made.
+//! Scripts try what they are meant to, and are obeyed as they were made.
 
-use second::commands::{COMMAND_BYTES, COPY_RECORDS, LATE, LOAD, LOOKUP, NEXT, OPEN};
-use second::commands::{POKE, POKE_BYTES, ROW, SAVE, SET};
-use second::script;
-use second::told::{self, Form};
+use crate::sound::is_sound;
+use second::clauses::{self, CLAUSES};
+use second::command::Command;
+use second::counts::{self, REFUSALS};
+use second::scripts::{self, chance};
+use second::session::Session;
+use second::told;
 
 const CALLS: u64 = 20_000;
 
 #[test]
-fn a_script_has_its_calls_and_meets_every_refusal() {
-    let mut bytes = Vec::new();
-    let counts = script::write(1, CALLS, &mut bytes).unwrap();
-    assert_eq!(counts.calls, CALLS);
-    assert!((CALLS / 3..=CALLS - CALLS / 3).contains(&counts.refused));
-    assert!(counts.by_number[1..].iter().all(|&times| times >= 20));
-    let mut times = [0; 256];
-    for command in bytes.chunks_exact(COMMAND_BYTES) {
-        times[usize::from(command[0])] += 1;
-    }
-    let calls = [OPEN, NEXT, LATE, LOOKUP, ROW, SAVE, LOAD];
-    let changes = [POKE, SET, POKE_BYTES, COPY_RECORDS];
-    for opcode in calls.iter().chain(&changes) {
-        assert!(times[usize::from(*opcode)] >= 100, "few of {opcode}");
-    }
-    let called = calls.map(|opcode| times[usize::from(opcode)]);
-    let changed = changes.map(|opcode| times[usize::from(opcode)]);
-    assert_eq!(called.iter().sum::<u64>(), CALLS);
-    let all = (bytes.len() / COMMAND_BYTES) as u64;
-    assert_eq!(changed.iter().sum::<u64>(), all - CALLS);
-}
-
-#[test]
-fn a_script_is_obeyed_as_it_was_made() {
-    for seed in [1, 2] {
-        let mut bytes = Vec::new();
-        let counts = script::write(seed, 5_000, &mut bytes).unwrap();
-        for form in [Form::Checksums, Form::Whole] {
-            let lines = told::lines(form, &bytes);
-            assert_eq!(lines.lines().count() as u64, counts.calls);
-            for (number, &times) in counts.by_number.iter().enumerate() {
-                let refused = format!("refused {number} ");
-                let told = lines.lines().filter(|line| line.contains(&refused));
-                assert_eq!(told.count() as u64, times);
-            }
+fn a_script_by_chance_has_its_calls_and_meets_every_refusal() {
+    let script = chance::of_seed(1, CALLS);
+    assert_eq!(script.calls, CALLS);
+    let met = told::obey(script.text.as_bytes(), &mut std::io::sink())
+        .unwrap()
+        .met();
+    assert_eq!(met["calls"], CALLS);
+    assert!((CALLS / 3..=CALLS - CALLS / 3).contains(&met["calls refused"]));
+    for (word, numbers) in REFUSALS {
+        assert!(met[&format!("{} accepted", word.text())] >= 20, "{word:?}");
+        for number in numbers {
+            let name = format!("{} refused {number}", word.text());
+            assert!(met.get(&name).is_some_and(|&times| times >= 5), "{name}");
         }
     }
 }
 
 #[test]
+fn every_script_is_obeyed_as_it_was_made() {
+    let by_name = scripts::NAMES.iter().filter(|&&name| name != "files");
+    let by_name = by_name.map(|name| scripts::of_name(name).unwrap());
+    for script in by_name.chain([chance::of_seed(2, 5_000)]) {
+        let mut session = Session::new();
+        let mut calls = 0;
+        for line in script.text.lines() {
+            let Some(command) = Command::of_line(line).unwrap() else {
+                continue;
+            };
+            session.obey(&command);
+            calls += u64::from(command.word.is_call());
+        }
+        assert_eq!(calls, script.calls);
+        assert_eq!(session.fields(), script.session.fields());
+        assert_eq!(session.room, script.session.room);
+        assert_eq!(session.file, script.session.file);
+    }
+}
+
+#[test]
 fn a_seed_gives_one_script_and_another_seed_another() {
-    let script = |seed, count| {
-        let mut bytes = Vec::new();
-        script::write(seed, count, &mut bytes).unwrap();
-        bytes
-    };
+    let script = |seed, calls| chance::of_seed(seed, calls).text;
     let long = script(5, 2_000);
     assert_eq!(long, script(5, 2_000));
     assert_ne!(long, script(6, 2_000));
     assert!(long.starts_with(&script(5, 1_000)));
+}
+
+#[test]
+fn the_short_script_is_short_and_has_only_the_words_that_are_obeyed() {
+    let script = scripts::of_name("short").unwrap();
+    assert!(script.text.len() < 65_536);
+    let obeyed = "open next late lookup worst save load state room set file byte take";
+    for line in script.text.lines() {
+        let word = line.split(' ').next().unwrap();
+        assert!(
+            word == "#" || obeyed.split(' ').any(|known| known == word),
+            "{line}"
+        );
+    }
+}
+
+#[test]
+fn each_clause_is_broken_alone_and_no_clause_where_the_trace_is_sound() {
+    let mut alone = [0; CLAUSES.len()];
+    for script in [
+        scripts::of_name("unsound").unwrap(),
+        chance::of_seed(3, 20_000),
+    ] {
+        let mut session = Session::new();
+        for line in script.text.lines() {
+            let Some(command) = Command::of_line(line).unwrap() else {
+                continue;
+            };
+            session.obey(&command);
+            if !command.word.is_call() {
+                let broken = clauses::broken(session.state, session.lent_numbers());
+                let sound = is_sound(session.state, session.lent_numbers());
+                assert_eq!(sound, !broken.contains(&true));
+                if let Some(clause) = clauses::alone(&broken) {
+                    alone[clause] += 1;
+                }
+            }
+        }
+    }
+    assert!(alone.iter().all(|&times| times >= 10), "{alone:?}");
+}
+
+#[test]
+fn what_is_missing_is_said() {
+    let mut met = counts::wanted();
+    assert_eq!(counts::missing(&met).len(), 1);
+    met.insert("load accepted".to_string(), 350_000);
+    assert!(counts::missing(&met).is_empty());
+    met.remove("worst refused 4");
+    assert_eq!(
+        counts::missing(&met),
+        ["worst refused 4: 0 where 100 are wanted"]
+    );
 }

@@ -1,4 +1,4 @@
--- `calls::run` meets its contract: the position stays within the input, and the room keeps its length.
+-- `calls::run` is safe and ends: the place stays within the script, and what is lent keeps its length.
 use Prim.Native.Nat.{_≤_, _-_}
 use mathlib.Core.Path.{_≡_}
 use borrow.Author.Needs.{needs}
@@ -7,25 +7,33 @@ use Rattle.calls.proofs.run.Statement.{statement}
 use Rattle.calls.proofs.run.Tie as tie
 
 abbrev Inv-loop : tie.InvT-loop
-Inv-loop input facts₀ room₀ at₀ facts room at = (at ≤ length input) × (length room ≡ length room₀)
+Inv-loop script room₀ file₀ output₀ given₀ held₀ i₀ room file output given held i =
+    (i ≤ length script)
+    × (length room ≡ length room₀)
+    × (length file ≡ length file₀)
+    × (length output ≡ length output₀)
 
 abbrev μ-loop : tie.MeasureT-loop
-μ-loop input facts₀ room₀ at₀ facts room at = length input - at
+μ-loop script room₀ file₀ output₀ given₀ held₀ i₀ room file output given held i =
+    length script - i
+
+trace-of-requires : tie.Need-trace-of-requires Inv-loop μ-loop
+trace-of-requires c κs = search needs
+
+nothing-requires : tie.Need-nothing-requires Inv-loop μ-loop
+nothing-requires c κs = search needs
 
 loop-holds : tie.Need-loop-holds Inv-loop μ-loop
 loop-holds c = search needs
 
-add-loop : tie.Need-add-loop Inv-loop μ-loop
-add-loop c = search needs
+shared-slice-read-byte : tie.Need-shared-slice-read-byte Inv-loop μ-loop
+shared-slice-read-byte c = search needs
 
-read-requires : tie.Need-read-requires Inv-loop μ-loop
-read-requires c κs = search needs
+add-i : tie.Need-add-i Inv-loop μ-loop
+add-i c = search needs
 
-obey-requires : tie.Need-obey-requires Inv-loop μ-loop
-obey-requires c κs = search needs
-
-add-at : tie.Need-add-at Inv-loop μ-loop
-add-at c = search needs
+turn-requires : tie.Need-turn-requires Inv-loop μ-loop
+turn-requires c κs = search needs
 
 loop-less : tie.Need-loop-less Inv-loop μ-loop
 loop-less c = search needs
@@ -36,6 +44,12 @@ loop-again c = search needs
 same-length : tie.Need-same-length Inv-loop μ-loop
 same-length c = search needs
 
+same-length-2 : tie.Need-same-length-2 Inv-loop μ-loop
+same-length-2 c = search needs
+
+same-length-3 : tie.Need-same-length-3 Inv-loop μ-loop
+same-length-3 c = search needs
+
 returns : tie.Need-returns Inv-loop μ-loop
 returns c = search needs
 
@@ -45,12 +59,15 @@ run-spec =
     (tie.spec
     Inv-loop
     μ-loop
+    trace-of-requires
+    nothing-requires
     loop-holds
-    add-loop
-    read-requires
-    obey-requires
-    add-at
+    shared-slice-read-byte
+    add-i
+    turn-requires
     loop-less
     loop-again
     same-length
+    same-length-2
+    same-length-3
     returns)

@@ -1,4 +1,4 @@
--- `calls::show::numbers` meets its contract: the index stays within the room.
+-- `calls::show::numbers` is safe and ends: the index stays within what is summed.
 use Prim.Native.Nat.{_≤_, _-_}
 use borrow.Author.Needs.{needs}
 use lib.ListN.{length}
@@ -6,10 +6,10 @@ use Rattle.calls.proofs.show.numbers.Statement.{statement}
 use Rattle.calls.proofs.show.numbers.Tie as tie
 
 abbrev Inv-loop : tie.InvT-loop
-Inv-loop room i₀ t3 i = i ≤ length room
+Inv-loop name numbers sum₀ i₀ sum i = i ≤ length numbers
 
 abbrev μ-loop : tie.MeasureT-loop
-μ-loop room i₀ t3 i = length room - i
+μ-loop name numbers sum₀ i₀ sum i = length numbers - i
 
 loop-holds : tie.Need-loop-holds Inv-loop μ-loop
 loop-holds c = search needs
@@ -23,14 +23,8 @@ shared-slice-copy-out-bits c = search needs
 bits-requires : tie.Need-bits-requires Inv-loop μ-loop
 bits-requires c κs = search needs
 
-print-hex-requires : tie.Need-print-hex-requires Inv-loop μ-loop
-print-hex-requires c κs = search needs
-
-slice-aggregate-text : tie.Need-slice-aggregate-text Inv-loop μ-loop
-slice-aggregate-text c = search needs
-
-text-requires : tie.Need-text-requires Inv-loop μ-loop
-text-requires c κs = search needs
+mixed-requires : tie.Need-mixed-requires Inv-loop μ-loop
+mixed-requires c κs = search needs
 
 add-i : tie.Need-add-i Inv-loop μ-loop
 add-i c = search needs
@@ -40,6 +34,12 @@ loop-less c = search needs
 
 loop-again : tie.Need-loop-again Inv-loop μ-loop
 loop-again c = search needs
+
+text-requires : tie.Need-text-requires Inv-loop μ-loop
+text-requires c κs = search needs
+
+print-hex-requires : tie.Need-print-hex-requires Inv-loop μ-loop
+print-hex-requires c κs = search needs
 
 returns : tie.Need-returns Inv-loop μ-loop
 returns c = search needs
@@ -54,10 +54,10 @@ numbers-spec =
     mul-bits
     shared-slice-copy-out-bits
     bits-requires
-    print-hex-requires
-    slice-aggregate-text
-    text-requires
+    mixed-requires
     add-i
     loop-less
     loop-again
+    text-requires
+    print-hex-requires
     returns)

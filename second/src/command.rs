@@ -1,0 +1,217 @@
+//! The language of scripts: text, one command a line, a word and then numbers by name, one space apart: `late tick=3 value=-5`.
+//!
+//! A number is decimal, of 64 bits; one below 0 stands by its bits in two's complement. A name that is not given is the field of that name in the
+//! state at hand or in the tally, any other 0. Where a field has fewer bits, the lowest of the number are its. A line that begins
+//! with `#` is a heading for what follows it, and is no command. Words and names have at most eight letters.
+//!
+//! A script has a state at hand, of six fields, a room of 8,192 numbers of which the first so many are lent, a file of 65,536 bytes of which the
+//! first so many are lent, a row of 4,096 buckets, an output of 65,536 bytes and a tally, all 0 at first. Where a command names more of them than
+//! there is, all there is is meant.
+//!
+//! | Word | Names | What it does |
+//! |---|---|---|
+//! | `open` | `kind steps gaps` | opens a trace with these settings |
+//! | `next` | `value` | the next reading |
+//! | `late` | `tick value` | a late reading |
+//! | `nexttold`, `latetold` | as `next`, `late` | the same with the tally lent |
+//! | `lookup` | `tick` | |
+//! | `worst` | | the worst error |
+//! | `row` | `places` | so many buckets of the row are lent |
+//! | `save` | `bytes` | so many bytes of the output are lent |
+//! | `load` | `kind steps gaps` | loads the lent file with these settings |
+//! | `level`, `error` | `start count least largest` | of that bucket |
+//! | `show` | | no call: the state at hand and every lent number |
+//! | `state` | `kind steps gaps used runs readings` | is the state at hand |
+//! | `tally` | `accepted refused merges` | is the tally |
+//! | `room` | `numbers` | so many numbers of the room are lent from now on |
+//! | `fill` | `value` | every lent number of the room is this |
+//! | `set` | `at value` | the number at an index |
+//! | `slot` | `at start count least largest` | the four numbers of a slot |
+//! | `file` | `bytes` | so many bytes of the file are lent from now on |
+//! | `byte` | `at value` | the byte of the file at an index |
+//! | `record` | `at start count least largest` | the sixteen bytes of a record of the file |
+//! | `copy` | `from to count` | so many records of the file, which may overlap; none where either end passes the file's |
+//! | `take` | `bytes` | the first so many bytes of the output become the file, and are lent |
+//! | `blank` | `bytes value` | the first so many bytes of the output, and of the row's buckets as they lie in memory, are this |
+//!
+//! What would stand past the end of room or file is dropped. The kind is 0 in order and any other number late. An accepted call that answers a
+//! state leaves it at hand; a refused one leaves the state at hand as it was.
+//!
+//! The words from `open` to `show` write one line each, of the word and numbers one space apart. First what is answered, whole: a refusal, 0 where
+//! the call was accepted, and its place; then the six fields of a state (of a refused reading those that were given, of a refused open or load
+//! zeros), or a lookup's level, error, least and largest, or the worst error, or how many buckets were written, each 0 where refused. Then
+//! what was lent: ` room`, a checksum of the lent numbers; of a told reading ` tally` and its three counts; of a row, a save or a load ` row`,
+//! ` output` or ` file` and the checksum of what was lent. `level` and `error` write the number alone; `show` the state at hand and every lent number.
+//!
+//! A checksum is sixteen hex digits. It begins with how many numbers there are; for each number, by its 64 bits, exclusive or with it, then
+//! exclusive or with itself moved 13 up, then 7 down, then 17 up, then 11,400,714,819,323,198,485 is added, all modulo 2^64. Bytes go as one number
+//! each; a bucket as its start, count, least and largest.
+
+use std::fmt::Write;
+
+macro_rules! named {
+    ($what:ident: $($case:ident $text:literal,)*) => {
+        #[derive(Clone, Copy, Debug, PartialEq, Eq, PartialOrd, Ord)]
+        pub enum $what {
+            $($case),*
+        }
+
+        impl $what {
+            pub const ALL: &'static [$what] = &[$($what::$case),*];
+
+            pub fn text(self) -> &'static str {
+                match self {
+                    $($what::$case => $text),*
+                }
+            }
+
+            pub fn of_text(text: &str) -> Option<$what> {
+                match text {
+                    $($text => Some($what::$case),)*
+                    _ => None,
+                }
+            }
+        }
+    };
+}
+
+named! { Word:
+    Open "open",
+    Next "next",
+    Late "late",
+    NextTold "nexttold",
+    LateTold "latetold",
+    Lookup "lookup",
+    Worst "worst",
+    Row "row",
+    Save "save",
+    Load "load",
+    Level "level",
+    Error "error",
+    Show "show",
+    State "state",
+    Tally "tally",
+    Room "room",
+    Fill "fill",
+    Set "set",
+    Slot "slot",
+    File "file",
+    Byte "byte",
+    Record "record",
+    Copy "copy",
+    Take "take",
+    Blank "blank",
+}
+
+named! { Name:
+    Kind "kind",
+    Steps "steps",
+    Gaps "gaps",
+    Used "used",
+    Runs "runs",
+    Readings "readings",
+    Accepted "accepted",
+    Refused "refused",
+    Merges "merges",
+    Numbers "numbers",
+    Places "places",
+    Bytes "bytes",
+    At "at",
+    From "from",
+    To "to",
+    Start "start",
+    Count "count",
+    Least "least",
+    Largest "largest",
+    Tick "tick",
+    Value "value",
+}
+
+impl Word {
+    /// A call of the library, and not only a change or a show.
+    pub fn is_call(self) -> bool {
+        self <= Word::Error
+    }
+}
+
+impl Name {
+    fn is_signed(self) -> bool {
+        matches!(self, Name::Least | Name::Largest | Name::Value)
+    }
+}
+
+/// A word and the numbers that are given.
+#[derive(Clone, Copy, Debug, PartialEq, Eq)]
+pub struct Command {
+    pub word: Word,
+    given: u32,
+    numbers: [u64; Name::ALL.len()],
+}
+
+impl Command {
+    pub fn new(word: Word, named: &[(Name, u64)]) -> Command {
+        let mut command = Command {
+            word,
+            given: 0,
+            numbers: [0; Name::ALL.len()],
+        };
+        for &(name, number) in named {
+            command.give(name, number);
+        }
+        command
+    }
+
+    /// Nothing for a heading.
+    pub fn of_line(line: &str) -> Result<Option<Command>, String> {
+        if line.starts_with('#') {
+            return Ok(None);
+        }
+        let wrong = || format!("not a command: {line}");
+        let mut parts = line.split(' ');
+        let word = parts.next().and_then(Word::of_text).ok_or_else(wrong)?;
+        let mut command = Command::new(word, &[]);
+        for part in parts {
+            let (name, number) = part.split_once('=').ok_or_else(wrong)?;
+            let name = Name::of_text(name).ok_or_else(wrong)?;
+            let number = number_of_text(number).ok_or_else(wrong)?;
+            command.give(name, number);
+        }
+        Ok(Some(command))
+    }
+
+    fn give(&mut self, name: Name, number: u64) {
+        self.given |= 1 << name as u32;
+        self.numbers[name as usize] = number;
+    }
+
+    pub fn given(&self, name: Name) -> Option<u64> {
+        (self.given >> name as u32 & 1 == 1).then(|| self.numbers[name as usize])
+    }
+
+    /// For names that no state and no tally has.
+    pub fn number(&self, name: Name) -> u64 {
+        self.given(name).unwrap_or(0)
+    }
+
+    pub fn write_line(&self, text: &mut String) {
+        text.push_str(self.word.text());
+        for &name in Name::ALL {
+            if let Some(number) = self.given(name) {
+                let written = if name.is_signed() {
+                    write!(text, " {}={}", name.text(), number as i64)
+                } else {
+                    write!(text, " {}={number}", name.text())
+                };
+                written.expect("a string takes any text");
+            }
+        }
+        text.push('\n');
+    }
+}
+
+fn number_of_text(text: &str) -> Option<u64> {
+    match text.strip_prefix('-') {
+        None => text.parse().ok(),
+        Some(digits) => digits.parse().ok().map(u64::wrapping_neg),
+    }
+}

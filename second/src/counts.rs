@@ -1,0 +1,211 @@
+//! What an obeyed script meets, and how much of it all the scripts together must meet.
+
+use crate::calls::{Tally, LAST_CALL_REFUSAL, RECORD, RECORD_BYTES, UNSOUND};
+use crate::clauses::{self, CLAUSES};
+use crate::command::{Command, Name, Word};
+use crate::session::{Answer, Session};
+use std::collections::BTreeMap;
+
+/// How often each thing was met, by its name.
+pub type Met = BTreeMap<String, u64>;
+
+/// The most numbers that a trace needs, and the most records that one saves.
+const MOST_NUMBERS: usize = 3_076;
+const MOST_RECORDS: usize = 768;
+/// What a clause of soundness must be met alone, at the least.
+const ALONE: u64 = 200;
+
+#[derive(Default)]
+pub struct Counts {
+    by_answer: [[u64; LAST_CALL_REFUSAL as usize + 1]; Word::ALL.len()],
+    alone: [u64; CLAUSES.len()],
+    heading: String,
+    met: Met,
+    tally: Tally,
+}
+
+impl Counts {
+    pub fn heading(&mut self, line: &str) {
+        self.heading = line.to_string();
+    }
+
+    /// One command, and the session as it left it.
+    pub fn after(&mut self, session: &Session, command: &Command, answer: &Answer) {
+        let before = std::mem::replace(&mut self.tally, session.tally);
+        if !command.word.is_call() {
+            return;
+        }
+        if !self.heading.is_empty() {
+            *self.met.entry(self.heading.clone()).or_default() += 1;
+        }
+        let refusal = answer.refusal();
+        let number = refusal.map_or(0, |refusal| refusal.number);
+        self.by_answer[command.word as usize][number as usize] += 1;
+        match command.word {
+            Word::Level | Word::Error => return self.bucket(command),
+            Word::Open | Word::Load => {
+                self.settings(command);
+                if refusal.is_some_and(|given| given.number == RECORD && given.place > 1_023) {
+                    self.count("place above 1023");
+                }
+                if command.word == Word::Load && session.length > MOST_RECORDS * RECORD_BYTES {
+                    self.count("file above 768 records");
+                }
+            }
+            Word::NextTold | Word::LateTold => self.told(&before, &session.tally),
+            _ => {}
+        }
+        if session.lent > MOST_NUMBERS {
+            self.count("room above 3076 numbers");
+        }
+        if matches!(command.word, Word::Open | Word::Load) && refusal.is_some() {
+            return;
+        }
+        let broken = clauses::broken(session.state, session.lent_numbers());
+        assert_eq!(number == UNSOUND, broken.contains(&true), "{command:?}");
+        if let Some(clause) = clauses::alone(&broken) {
+            self.alone[clause] += 1;
+        }
+    }
+
+    fn count(&mut self, what: &str) {
+        *self.met.entry(what.to_string()).or_default() += 1;
+    }
+
+    /// Settings that 32 bits do not hold.
+    fn settings(&mut self, command: &Command) {
+        for name in [Name::Kind, Name::Steps, Name::Gaps] {
+            if command.given(name) > Some(u64::from(u32::MAX)) {
+                self.count(&format!("{} wide {}", command.word.text(), name.text()));
+            }
+        }
+    }
+
+    fn bucket(&mut self, command: &Command) {
+        let least = command.number(Name::Least) as i32;
+        let largest = command.number(Name::Largest) as i32;
+        if least == i32::MIN {
+            self.count("bucket at the lower end");
+        }
+        if largest == i32::MAX {
+            self.count("bucket at the upper end");
+        }
+        if least == i32::MIN && largest == i32::MAX {
+            self.count("bucket of the whole range");
+        }
+    }
+
+    fn told(&mut self, before: &Tally, after: &Tally) {
+        let counts = [
+            ("accepted", before.accepted, after.accepted),
+            ("refused", before.refused, after.refused),
+            ("merges", before.merges, after.merges),
+        ];
+        for (name, before, after) in counts {
+            if after == u32::MAX {
+                self.count(&format!("tally {name} at its stop"));
+            }
+            if name == "merges" && after < u32::MAX {
+                self.count(&format!("told reading of {} merges", after - before));
+            }
+        }
+    }
+
+    /// Everything by its name.
+    pub fn met(&self) -> Met {
+        let mut met = self.met.clone();
+        for &word in Word::ALL.iter().filter(|word| word.is_call()) {
+            for (number, &times) in self.by_answer[word as usize].iter().enumerate() {
+                let name = answer_name(word, number as u32);
+                met.insert(name, times);
+                *met.entry("calls".to_string()).or_default() += times;
+                if number > 0 {
+                    *met.entry("calls refused".to_string()).or_default() += times;
+                }
+            }
+        }
+        for (clause, &times) in CLAUSES.iter().zip(&self.alone) {
+            met.insert(format!("alone broken: {clause}"), times);
+        }
+        met.retain(|_, times| *times > 0);
+        met
+    }
+}
+
+fn answer_name(word: Word, number: u32) -> String {
+    match number {
+        0 => format!("{} accepted", word.text()),
+        _ => format!("{} refused {number}", word.text()),
+    }
+}
+
+/// The refusals that each call can give.
+pub const REFUSALS: [(Word, &[u32]); 12] = [
+    (Word::Open, &[1, 2, 3]),
+    (Word::Next, &[4, 5, 6]),
+    (Word::Late, &[4, 5, 6, 9, 11]),
+    (Word::NextTold, &[4, 5, 6]),
+    (Word::LateTold, &[4, 5, 6, 9, 11]),
+    (Word::Lookup, &[4, 6, 12]),
+    (Word::Worst, &[4]),
+    (Word::Row, &[4, 13]),
+    (Word::Save, &[4, 13]),
+    (Word::Load, &[1, 2, 3, 7, 8, 9, 10]),
+    (Word::Level, &[]),
+    (Word::Error, &[]),
+];
+
+/// What all the scripts of the gate together must meet, and how often at the least.
+pub fn wanted() -> Met {
+    let mut wanted = Met::new();
+    for (word, numbers) in REFUSALS {
+        wanted.insert(answer_name(word, 0), 200);
+        for &number in numbers {
+            wanted.insert(answer_name(word, number), 100);
+        }
+    }
+    for clause in CLAUSES {
+        wanted.insert(format!("alone broken: {clause}"), ALONE);
+    }
+    for word in [Word::Open, Word::Load] {
+        for name in [Name::Kind, Name::Steps, Name::Gaps] {
+            wanted.insert(format!("{} wide {}", word.text(), name.text()), 100);
+        }
+    }
+    for (name, times) in [
+        ("place above 1023", 200),
+        ("file above 768 records", 200),
+        ("room above 3076 numbers", 200),
+        ("bucket at the lower end", 50),
+        ("bucket at the upper end", 50),
+        ("bucket of the whole range", 2),
+        ("tally accepted at its stop", 50),
+        ("tally refused at its stop", 50),
+        ("tally merges at its stop", 50),
+        ("told reading of 0 merges", 100),
+        ("told reading of 1 merges", 100),
+        ("told reading of 2 merges", 20),
+    ] {
+        wanted.insert(name.to_string(), times);
+    }
+    wanted.extend(crate::scripts::wanted_headings());
+    wanted
+}
+
+/// What is wanted and not met often enough, a line each.
+pub fn missing(met: &Met) -> Vec<String> {
+    let short = |(name, &times): (&String, &u64)| {
+        let there = met.get(name).copied().unwrap_or(0);
+        (there < times).then(|| format!("{name}: {there} where {times} are wanted"))
+    };
+    let mut lines: Vec<String> = wanted().iter().filter_map(short).collect();
+    let loads: u64 = met
+        .iter()
+        .filter(|(name, _)| name.starts_with("load accepted") || name.starts_with("load refused"))
+        .map(|(_, times)| times)
+        .sum();
+    if loads < 350_000 {
+        lines.push(format!("loads: {loads} where 350000 are wanted"));
+    }
+    lines
+}

@@ -1,0 +1,472 @@
+//! Calls by chance from a seed: traces of both kinds, with states, rooms and files changed in one place, and settings, rooms and outputs that fit or
+//! do not.
+
+use crate::calls::{self, MOST_GAPS, MOST_STEPS, RECORD_BYTES, SLOT};
+use crate::command::{Name, Word};
+use crate::made;
+use crate::rule::{self, Bucket, Kind, TICKS};
+use crate::script::Script;
+use crate::session::{NUMBERS, PLACES};
+
+const FIELDS: [Name; 6] = [
+    Name::Kind,
+    Name::Steps,
+    Name::Gaps,
+    Name::Used,
+    Name::Runs,
+    Name::Readings,
+];
+
+/// The last record of the file, by way of which two are swapped.
+const SPARE_RECORD: usize = PLACES - 1;
+
+/// A script of so many calls.
+pub fn of_seed(seed: u64, calls: u64) -> Script {
+    let mut script = Script::of_calls(seed, calls);
+    while !script.is_full() {
+        script.trace();
+    }
+    script
+}
+
+impl Script {
+    /// One trace from its opening, and some calls of it.
+    fn trace(&mut self) {
+        let kind = self.random.choice(&[Kind::InOrder, Kind::Late]);
+        let large = self.chance(300);
+        let most = if large { 256 } else { 6 };
+        let steps = self.random.between(1, most) as u64;
+        let gaps = self.random.between(1, most) as u64;
+        if self.chance(2) {
+            self.refused_open(kind, steps, gaps);
+        }
+        let fitting = calls::needed_numbers(kind, steps, gaps);
+        let longer = self.random.choice(&[0, 0, 1, 3, 8]);
+        for index in fitting..fitting + longer {
+            let number = self.random.number() as i64;
+            self.set(index, number);
+        }
+        self.room(fitting + longer);
+        let number = self.number_of(kind);
+        self.open_as(number, steps, gaps);
+        if large || self.chance(2) {
+            let table = self.table();
+            self.lay_sound(&table);
+        }
+        if self.chance(4) {
+            self.other_tally();
+        }
+        for _ in 0..self.random.between(4, 40) {
+            self.act();
+        }
+    }
+
+    /// Any number but 0 stands for the late kind.
+    fn number_of(&mut self, kind: Kind) -> u64 {
+        match kind {
+            Kind::InOrder => 0,
+            Kind::Late => self.random.choice(&[1, 1, 1, 2, 1 << 32, u64::MAX]),
+        }
+    }
+
+    fn refused_open(&mut self, kind: Kind, steps: u64, gaps: u64) {
+        let fitting = calls::needed_numbers(kind, steps, gaps);
+        let (steps, gaps, lent) = match self.random.below(3) {
+            0 => (self.beyond(MOST_STEPS), gaps, fitting),
+            1 => (steps, self.beyond(MOST_GAPS), fitting),
+            _ => {
+                let short = self.random.choice(&[1, 1, 4, fitting]);
+                (steps, gaps, fitting - short)
+            }
+        };
+        self.open(kind, steps, gaps, lent);
+    }
+
+    fn beyond(&mut self, most: u64) -> u64 {
+        let wide = self.random.number() | 1 << 32;
+        self.random
+            .choice(&[0, most + 1, 65_536, 1 << 32, (1 << 32) + 1, wide, u64::MAX])
+    }
+
+    /// A table that the settings allow, or the greatest B where they say more.
+    fn table(&mut self) -> Vec<Bucket> {
+        let state = self.session.state;
+        let steps = state.steps.min(MOST_STEPS);
+        let most = rule::limit(state.kind, steps, 0) as usize;
+        let mut table = made::table(&mut self.random, state.kind, most);
+        while state.kind == Kind::Late && rule::runs(&table) > state.gaps {
+            table.pop();
+        }
+        table
+    }
+
+    fn other_tally(&mut self) {
+        for name in [Name::Accepted, Name::Refused, Name::Merges] {
+            let count = self.random.choice(&[0, u32::MAX, u32::MAX - 1, 7]);
+            self.give(Word::Tally, &[(name, u64::from(count))]);
+        }
+    }
+
+    fn act(&mut self) {
+        match self.random.below(22) {
+            0..=6 => self.reading(),
+            7 => self.refused_reading(),
+            8 => self.about_lookup(),
+            9 | 10 => self.changed_field(),
+            11 | 12 => self.changed_number(),
+            13 | 14 => self.any_row(),
+            15 => self.any_save(),
+            16..=18 => self.any_load(),
+            19 => self.worst(),
+            20 => self.any_bucket(),
+            _ if self.chance(8) => self.last_ticks(),
+            _ => self.about_lookup(),
+        }
+    }
+
+    fn value(&mut self) -> i32 {
+        let ends = [i32::MIN, i32::MIN + 1, i32::MAX - 1, i32::MAX];
+        match self.random.below(8) {
+            0 => self.random.choice(&ends),
+            1 => self.random.number() as i32,
+            2 | 3 => self.random.between(-1000, 1000) as i32,
+            _ => self.random.between(-9, 9) as i32,
+        }
+    }
+
+    /// With the tally now and then.
+    fn reading_word(&mut self, kind: Kind) -> Word {
+        let told = self.chance(3);
+        match (kind, told) {
+            (Kind::InOrder, false) => Word::Next,
+            (Kind::InOrder, true) => Word::NextTold,
+            (Kind::Late, false) => Word::Late,
+            (Kind::Late, true) => Word::LateTold,
+        }
+    }
+
+    /// Of the trace's kind; a late one is often next to a bucket.
+    fn reading(&mut self) {
+        let value = self.value();
+        let word = self.reading_word(self.session.state.kind);
+        let tick = match self.ticks() {
+            Some((start, end)) if !self.chance(3) => {
+                let beside = [start.wrapping_sub(1), end, end.wrapping_add(1)];
+                self.random.choice(&beside)
+            }
+            _ => self.random.below(60) as u32,
+        };
+        self.read(word, tick, value);
+    }
+
+    fn refused_reading(&mut self) {
+        let value = self.value();
+        let tick = self.far_tick();
+        let late = self.session.state.kind == Kind::Late;
+        let kind = if late && self.chance(2) {
+            Kind::InOrder
+        } else {
+            Kind::Late
+        };
+        let word = self.reading_word(kind);
+        self.read(word, tick, value);
+    }
+
+    fn far_tick(&mut self) -> u32 {
+        let last = TICKS as u32 - 1;
+        self.random.choice(&[last, last + 1, last + 1, u32::MAX])
+    }
+
+    fn about_lookup(&mut self) {
+        let tick = match self.ticks() {
+            Some((start, end)) if !self.chance(4) => {
+                let about = [start.wrapping_sub(1), start, end.wrapping_sub(1), end];
+                self.random.choice(&about)
+            }
+            _ if self.chance(2) => self.random.below(60) as u32,
+            _ => self.far_tick(),
+        };
+        self.lookup(tick);
+    }
+
+    /// Where a slot in use begins and ends, if there is one; the numbers may be changed ones.
+    fn ticks(&mut self) -> Option<(u32, u32)> {
+        let used = self.used();
+        if used == 0 {
+            return None;
+        }
+        let slot = self.random.below(used as u64) as usize;
+        let [start, count] = [0, 1].map(|field| self.session.room[slot * SLOT + field]);
+        Some((start as u32, start.wrapping_add(count) as u32))
+    }
+
+    /// Any call that asks whether the trace is sound.
+    fn call(&mut self) {
+        match self.random.below(7) {
+            0 => self.about_lookup(),
+            1 => self.any_row(),
+            2 => self.any_save(),
+            3 => self.worst(),
+            _ => self.reading(),
+        }
+    }
+
+    /// A field of the state or how much of the room is lent; it comes back unless the call was accepted with a state.
+    fn changed_field(&mut self) {
+        let which = self.random.below(FIELDS.len() as u64 + 1) as usize;
+        let Some(&name) = FIELDS.get(which) else {
+            let lent = self.session.lent;
+            let short = made::other_field(&mut self.random, lent as u64);
+            self.room(short.min(NUMBERS as u64) as usize);
+            self.call();
+            self.room(lent);
+            return;
+        };
+        let field = self.session.fields()[which];
+        let changed = match name {
+            Name::Kind => made::other_kind(&mut self.random, field),
+            _ => made::other_field(&mut self.random, field),
+        };
+        self.state(name, changed);
+        let at_call = self.session.state;
+        self.call();
+        if self.session.state == at_call {
+            self.state(name, field);
+        }
+    }
+
+    /// In a slot in use or in the two after it; the number comes back unless the call was accepted with a state.
+    fn changed_number(&mut self) {
+        let numbers = ((self.used() + 2) * SLOT).min(NUMBERS);
+        let index = self.random.below(numbers as u64) as usize;
+        let number = self.session.room[index];
+        let changed = made::other_number(&mut self.random, number);
+        let before = self.session.state;
+        self.set(index, changed);
+        self.call();
+        if self.session.state == before {
+            self.set(index, number);
+        }
+    }
+
+    fn any_row(&mut self) {
+        let places = self.output(self.used(), 3);
+        self.row(places);
+    }
+
+    fn any_save(&mut self) {
+        let bytes = self.output(self.used() * RECORD_BYTES, 21);
+        self.save(bytes);
+    }
+
+    /// The length of an output: exact, longer or short; seldom more than there is.
+    fn output(&mut self, exact: usize, longer: usize) -> u64 {
+        if self.chance(300) {
+            return u64::MAX;
+        }
+        if self.chance(9) {
+            let bytes = 16 * self.random.below(20) + self.random.below(17);
+            let byte = self.random.choice(&[0, 165, 255]);
+            self.blank(bytes, byte);
+        }
+        let short = exact.saturating_sub(1);
+        let cut = self.random.below(exact as u64 + 1) as usize;
+        let lengths = [exact, exact, exact + 1, exact + longer, short, short, cut];
+        self.random.choice(&lengths) as u64
+    }
+
+    fn any_bucket(&mut self) {
+        let [one, other] = [self.value(), self.value()];
+        let word = self.random.choice(&[Word::Level, Word::Error]);
+        self.bucket(word, one.min(other), one.max(other));
+    }
+
+    /// Loads the trace's own file, damaged or not, or another one, by its own settings or others.
+    fn any_load(&mut self) {
+        let length = match self.random.below(6) {
+            0 => self.random_file(),
+            1 | 2 => self.other_file(),
+            _ => {
+                let length = self.used() * RECORD_BYTES;
+                self.save(length as u64);
+                self.give(Word::Take, &[(Name::Bytes, length as u64)]);
+                self.damaged(length / RECORD_BYTES)
+            }
+        };
+        self.file_length(length);
+        if self.chance(4) {
+            self.load_otherwise();
+        } else {
+            let state = self.session.state;
+            self.load_by(state.kind, state.steps, state.gaps);
+        }
+    }
+
+    fn load_by(&mut self, kind: Kind, steps: u64, gaps: u64) {
+        let number = self.number_of(kind);
+        self.load_as(number, steps, gaps);
+    }
+
+    /// By settings out of bounds, too small for the file or too large for the room, of the other kind, or in a room that is short.
+    fn load_otherwise(&mut self) {
+        let state = self.session.state;
+        let (kind, steps, gaps) = (state.kind, state.steps, state.gaps);
+        match self.random.below(8) {
+            0 => {
+                let steps = self.beyond(MOST_STEPS);
+                self.load_by(kind, steps, gaps);
+            }
+            1 => {
+                let gaps = self.beyond(MOST_GAPS);
+                self.load_by(kind, steps, gaps);
+            }
+            2 => self.load_by(kind, steps.saturating_sub(1), gaps),
+            3 => self.load_by(kind, steps, gaps.saturating_sub(1)),
+            4 => self.load_by(kind, steps.saturating_add(1), gaps),
+            5 => self.load_by(Kind::InOrder, steps, gaps),
+            6 => self.load_by(Kind::Late, steps.saturating_sub(1), 1),
+            _ => {
+                let lent = self.session.lent;
+                let short = self.random.choice(&[1, 4, 9]);
+                self.room(lent.saturating_sub(short));
+                self.load_by(kind, steps, gaps);
+                self.room(lent);
+            }
+        }
+    }
+
+    /// Random bytes; answers their number.
+    fn random_file(&mut self) -> usize {
+        let records = self.random.below(4) as usize;
+        for at in 0..records {
+            let [start, count] = [(); 2].map(|()| i64::from(self.random.number() as u32));
+            let [least, largest] = [(); 2].map(|()| i64::from(self.random.number() as i32));
+            self.record(at, [start, count, least, largest]);
+        }
+        let more = if self.chance(4) { 5 } else { 0 };
+        records * RECORD_BYTES + more
+    }
+
+    /// The file of a table by chance that the settings allow, now and then with one fault; answers its length.
+    fn other_file(&mut self) -> usize {
+        let table = self.table();
+        for (at, bucket) in table.iter().enumerate() {
+            self.record(at, made::slot(bucket));
+        }
+        if self.chance(2) {
+            return self.damaged(table.len());
+        }
+        table.len() * RECORD_BYTES
+    }
+
+    /// One field of a record: start, count, least or largest.
+    fn field(&mut self, at: usize, field: usize, number: i64) {
+        let mut record = self.record_there(at);
+        record[field] = number;
+        self.record(at, record);
+    }
+
+    fn copy(&mut self, from: usize, to: usize, count: usize) {
+        let [from, to, count] = [from, to, count].map(|number| number as u64);
+        let named = [(Name::From, from), (Name::To, to), (Name::Count, count)];
+        self.give(Word::Copy, &named);
+    }
+
+    /// Does one thing to the file of so many records; answers its length then.
+    fn damaged(&mut self, records: usize) -> usize {
+        let length = records * RECORD_BYTES;
+        if records == 0 {
+            return self.random.below(20) as usize;
+        }
+        let record = self.random.below(records as u64) as usize;
+        let [start, count, least, largest] = self.record_there(record);
+        let ticks = TICKS as i64;
+        match self.random.below(18) {
+            0 => {
+                let index = self.random.below(length as u64) as usize;
+                let flipped = self.session.file[index] ^ 1 << self.random.below(8);
+                self.byte(index, flipped);
+            }
+            1 => {
+                let after = records - record - 1;
+                self.copy(record + 1, record, after);
+                return length - RECORD_BYTES;
+            }
+            2 => {
+                let on = records - record;
+                self.copy(record, record + 1, on);
+                return length + RECORD_BYTES;
+            }
+            3 => {
+                let other = self.random.below(records as u64) as usize;
+                self.copy(record, SPARE_RECORD, 1);
+                self.copy(other, record, 1);
+                self.copy(SPARE_RECORD, other, 1);
+            }
+            4 => return length - self.random.between(1, RECORD_BYTES as i64 - 1) as usize,
+            5 => self.field(record, 1, 0),
+            6 => {
+                let past = [ticks, ticks + 1 - count, ticks - 1, -1];
+                let start = self.random.choice(&past);
+                self.field(record, 0, start);
+            }
+            7 => {
+                let left = ticks - start;
+                let count = self.random.choice(&[left, left + 1, -1]);
+                self.field(record, 1, count);
+            }
+            8 => self.field(record, 2, largest + 1),
+            9 => self.field(record, 3, least - 1),
+            10 => self.field(record, 0, start + 1),
+            11 => self.field(record, 0, start - 1),
+            12 | 13 => return self.lengthened(records, 1),
+            14 | 15 => return self.lengthened(records, 0),
+            _ => {}
+        }
+        length
+    }
+
+    /// Records after the last, with so many ticks missing before each, up to one run or one record too many; answers the length then.
+    fn lengthened(&mut self, records: usize, missing: u64) -> usize {
+        let state = self.session.state;
+        let (steps, runs) = (state.steps.min(MOST_STEPS), state.runs.min(MOST_GAPS));
+        let most = rule::limit(state.kind, steps, runs);
+        let allowed = if missing == 0 { most } else { state.gaps };
+        let there = if missing == 0 {
+            records as u64
+        } else {
+            state.runs
+        };
+        let more = allowed.saturating_add(1).saturating_sub(there).min(16) as usize;
+        let [start, count, ..] = self.record_there(records - 1);
+        let mut end = (start + count) as u64;
+        for record in records..records + more {
+            let bucket = Bucket::of_reading(end + missing, 4);
+            self.record(record, made::slot(&bucket));
+            end += missing + 1;
+        }
+        (records + more) * RECORD_BYTES
+    }
+
+    /// Lengthens the last bucket up to the last ticks, which leaves the trace sound; then readings and lookups there.
+    fn last_ticks(&mut self) {
+        let state = self.session.state;
+        let Some(last) = self.used().checked_sub(1) else {
+            return;
+        };
+        let [start, count] = [0, 1].map(|field| self.session.room[last * SLOT + field]);
+        let left = self.random.choice(&[0, 0, 1, 2]);
+        let more = (TICKS as i64 - left).saturating_sub(start.saturating_add(count));
+        if more < 0 {
+            return;
+        }
+        self.set(last * SLOT + 1, count.wrapping_add(more));
+        self.state(Name::Readings, state.readings.wrapping_add(more as u64));
+        for tick in TICKS as u32 - 2..=TICKS as u32 {
+            let value = self.value();
+            let word = self.reading_word(state.kind);
+            self.read(word, tick, value);
+            self.lookup(tick);
+        }
+    }
+}

@@ -1,0 +1,64 @@
+//! The scripts by name, and the headings that they must have so many calls under.
+
+pub mod arrivals;
+pub mod buckets;
+pub mod chance;
+pub mod files;
+pub mod late;
+pub mod long;
+pub mod next;
+pub mod sessions;
+pub mod settings;
+pub mod short;
+pub mod unsound;
+
+use crate::arrivals::ARRIVALS;
+use crate::script::Script;
+
+/// The scripts that are one and the same each time; besides them there is one by chance for each seed.
+pub const NAMES: [&str; 10] = [
+    "arrivals", "buckets", "files", "late", "long", "next", "sessions", "settings", "short",
+    "unsound",
+];
+
+/// Nothing for another name.
+pub fn of_name(name: &str) -> Option<Script> {
+    let write = match name {
+        "arrivals" => arrivals::write,
+        "buckets" => buckets::write,
+        "files" => files::write,
+        "late" => late::write,
+        "long" => long::write,
+        "next" => next::write,
+        "sessions" => sessions::write,
+        "settings" => settings::write,
+        "short" => short::write,
+        "unsound" => unsound::write,
+        _ => return None,
+    };
+    let mut script = Script::new(7);
+    write(&mut script);
+    Some(script)
+}
+
+/// How many calls all the scripts must have under which heading.
+pub fn wanted_headings() -> Vec<(String, u64)> {
+    let mut wanted = vec![
+        ("# sessions".to_string(), 1_000),
+        ("# open with settings of 64 bits".to_string(), 500),
+        ("# load with settings of 64 bits".to_string(), 400),
+        ("# a trace's last ticks".to_string(), 100),
+        ("# in order, each reading told".to_string(), 1_000),
+        ("# in order, far past the limit".to_string(), 10_000),
+    ];
+    for order in late::ORDERS {
+        wanted.push((late::heading(order), 1_000));
+    }
+    for arrivals in ARRIVALS {
+        wanted.push((arrivals::heading(&arrivals), 2_000));
+    }
+    for fault in files::FAULTS {
+        wanted.push((files::heading(fault), 1_000));
+    }
+    wanted
+}

@@ -1,0 +1,84 @@
+//! Open and load by settings of all 64 bits, each bound of B and K from both sides, and rooms about the needed length that hold what was there before.
+
+use crate::calls::{self, MOST_GAPS, MOST_STEPS};
+use crate::command::Word;
+use crate::rule::Kind;
+use crate::script::Script;
+use crate::session::NUMBERS;
+
+const KINDS: [u64; 5] = [0, 1, 7, 1 << 32, u64::MAX];
+/// The lowest 32 bits of those from 2^32 on would do.
+const STEPS: [u64; 11] = [
+    0,
+    1,
+    2,
+    255,
+    256,
+    257,
+    65_536,
+    1 << 32,
+    (1 << 32) + 1,
+    (1 << 63) + 2,
+    u64::MAX,
+];
+const GAPS: [u64; 9] = [
+    0,
+    1,
+    2,
+    256,
+    257,
+    1 << 32,
+    (1 << 32) + 1,
+    (1 << 63) + 2,
+    u64::MAX,
+];
+
+pub fn write(script: &mut Script) {
+    script.heading("# open with settings of 64 bits");
+    script.each_setting(|script, kind, steps, gaps| {
+        script.open_as(kind, steps, gaps);
+        script.next(0);
+    });
+    script.heading("# load with settings of 64 bits");
+    script.record(0, [0, 2, -1, 1]);
+    script.record(1, [2, 1, 5, 5]);
+    script.file_length(32);
+    script.each_setting(|script, kind, steps, gaps| {
+        script.load_as(kind, steps, gaps);
+    });
+    script.heading("# rooms of any length");
+    for numbers in [0, 1, 11, 12, 13, 16, 5_000, NUMBERS] {
+        for kind in [Kind::InOrder, Kind::Late] {
+            script.room(numbers);
+            script.fill(-9);
+            script.open_as(kind as u64, 1, 1);
+            script.next(3);
+            script.late(4, 3);
+            script.give(Word::Worst, &[]);
+            script.lookup(4);
+            script.lookup(0);
+        }
+    }
+}
+
+impl Script {
+    fn each_setting(&mut self, mut call: impl FnMut(&mut Script, u64, u64, u64)) {
+        for kind in KINDS {
+            for steps in STEPS {
+                for gaps in GAPS {
+                    let trace_kind = if kind == 0 { Kind::InOrder } else { Kind::Late };
+                    let fitting = calls::needed_numbers(
+                        trace_kind,
+                        steps.clamp(1, MOST_STEPS),
+                        gaps.clamp(1, MOST_GAPS),
+                    );
+                    let numbers = fitting + 1 - self.random.below(3) as usize;
+                    self.room(numbers);
+                    self.set(fitting - 1, -1);
+                    self.set(fitting, -2);
+                    call(self, kind, steps, gaps);
+                }
+            }
+        }
+    }
+}

@@ -1,0 +1,112 @@
+//! The short script that is stored, of a few hundred commands: each word that the proved program crates/calls obeys, and no other.
+
+use crate::command::{Name, Word};
+use crate::made;
+use crate::random::Random;
+use crate::rule::{self, Bucket, Kind, TICKS};
+use crate::script::Script;
+
+pub fn write(script: &mut Script) {
+    script.random = Random::new(11);
+    script.worked(false);
+    script.worked_late(false);
+    script.heading("# settings");
+    for (kind, steps, gaps) in [
+        (0, 0, 0),
+        (0, 257, 0),
+        (0, 1, u64::MAX),
+        (1, 1, 0),
+        (1, 1, 257),
+        (u64::MAX, 2, 3),
+        (0, 1 << 32, 0),
+        (1, 1, (1 << 32) + 1),
+    ] {
+        script.room(12);
+        script.open_as(kind, steps, gaps);
+        script.room(40);
+        script.open_as(kind, steps, gaps);
+    }
+    script.heading("# rows, saves and loads");
+    script.short_outputs();
+    script.heading("# unsound states and rooms");
+    script.short_changes();
+}
+
+impl Script {
+    fn short_outputs(&mut self) {
+        self.open(Kind::Late, 1, 2, 30);
+        for (tick, value) in [(3, -2), (4, i32::MIN), (5, i32::MAX), (9, 7)] {
+            self.late(tick, value);
+            let used = self.session.state.used;
+            for length in [used - 1, used, used + 1] {
+                self.save(16 * length);
+            }
+            self.worst();
+            self.save(16 * used - 1);
+            self.give(Word::Take, &[(Name::Bytes, 16 * used)]);
+            self.set(0, -3);
+            for (kind, steps, gaps) in [(1, 1, 2), (1, 1, 1), (0, 2, 0), (1, 2, 2), (1, 9, 9)] {
+                self.load_as(kind, steps, gaps);
+            }
+            self.file_length(16 * used as usize - 1);
+            self.load_as(1, 1, 2);
+            self.file_length(16 * used as usize);
+            self.load_as(1, 1, 2);
+        }
+        for (at, byte) in [(4, 0), (3, 1), (15, 128), (24, 9)] {
+            let there = self.session.file[at];
+            self.byte(at, byte);
+            self.load_as(1, 1, 2);
+            self.byte(at, there);
+        }
+    }
+
+    fn short_changes(&mut self) {
+        for kind in [Kind::InOrder, Kind::Late] {
+            self.open_fitting(kind, 2, 3);
+            let table = made::table(&mut self.random, kind, 4);
+            self.lay_by_numbers(&table);
+            self.lookup(0);
+            for name in [
+                Name::Steps,
+                Name::Gaps,
+                Name::Used,
+                Name::Runs,
+                Name::Readings,
+            ] {
+                let fields = self.session.fields();
+                self.state(name, fields[name as usize] + 1);
+                self.short_calls();
+                self.state(name, fields[name as usize]);
+            }
+            for at in 0..(self.used() + 1) * 4 {
+                let there = self.session.room[at];
+                self.set(at, there + (1 << 32));
+                self.short_calls();
+                self.set(at, there);
+            }
+            self.lookup(TICKS as u32);
+            self.late(TICKS as u32, 1);
+        }
+    }
+
+    fn lay_by_numbers(&mut self, table: &[Bucket]) {
+        let numbers = table.iter().flat_map(made::slot);
+        for (at, number) in numbers.enumerate() {
+            self.set(at, number);
+        }
+        self.state(Name::Used, table.len() as u64);
+        self.state(Name::Runs, rule::runs(table));
+        self.state(Name::Readings, rule::readings(table));
+    }
+
+    fn short_calls(&mut self) {
+        match self.random.below(5) {
+            0 => self.next(2),
+            1 => self.late(30, 2),
+            2 => self.lookup(1),
+            3 => self.worst(),
+            _ => self.save(64),
+        }
+    }
+}

@@ -1,0 +1,238 @@
+//! The language of scripts is read and written as described, and so are the lines that calls write and the shapes of readings.
+
+use second::command::{Command, Name, Word};
+use second::shapes::{self, Shape};
+use second::told;
+
+#[test]
+fn a_line_is_a_word_and_numbers_by_name() {
+    let line = "late tick=4294967295 value=-2147483648\n";
+    let named = [
+        (Name::Tick, u64::from(u32::MAX)),
+        (Name::Value, i32::MIN as i64 as u64),
+    ];
+    let command = Command::new(Word::Late, &named);
+    let mut text = String::new();
+    command.write_line(&mut text);
+    assert_eq!(text, line);
+    assert_eq!(Command::of_line(line.trim()), Ok(Some(command)));
+    assert_eq!(Command::of_line("# late"), Ok(None));
+    for wrong in [
+        "",
+        "later",
+        "late tick",
+        "late tick=",
+        "late tock=1",
+        "late tick=x",
+        "late  tick=1",
+    ] {
+        assert!(Command::of_line(wrong).is_err(), "{wrong}");
+    }
+}
+
+#[test]
+fn words_and_names_have_at_most_eight_letters() {
+    let words = Word::ALL.iter().map(|word| word.text());
+    let names = Name::ALL.iter().map(|name| name.text());
+    assert!(words.chain(names).all(|text| (1..=8).contains(&text.len())));
+    for &word in Word::ALL {
+        assert_eq!(Word::of_text(word.text()), Some(word));
+    }
+}
+
+/// H2's trace, as the commands before what a test tries.
+const H2: &str = "room numbers=12\nopen kind=0 steps=1 gaps=0\nnext value=1\nnext value=4\nnext value=2\nnext value=9\n";
+const H2_ROOM: [i64; 12] = [0, 3, 1, 4, 3, 1, 9, 9, 0, 0, 0, 0];
+
+/// The lines that these commands write after H2's.
+fn told_after_h2(commands: &[&str]) -> Vec<String> {
+    let script = format!("{H2}{}\n", commands.join("\n"));
+    let lines = told::lines(&script);
+    lines.lines().skip(5).map(String::from).collect()
+}
+
+/// As the language describes it, in numbers so wide that none is lost.
+fn checksum(numbers: &[i64]) -> String {
+    let word = 1_u128 << 64;
+    let sum = numbers.iter().fold(numbers.len() as u128, |sum, &number| {
+        let mut mixed = sum ^ u128::from(number as u64);
+        mixed ^= (mixed << 13) % word;
+        mixed ^= mixed >> 7;
+        mixed ^= (mixed << 17) % word;
+        (mixed + 11_400_714_819_323_198_485) % word
+    });
+    format!("{sum:016x}")
+}
+
+#[test]
+fn readings_and_lookups_are_told_whole() {
+    let room = checksum(&H2_ROOM);
+    assert_eq!(
+        told_after_h2(&[
+            "show",
+            "lookup tick=1",
+            "lookup tick=4",
+            "late tick=4 value=1",
+            "worst"
+        ]),
+        [
+            "show 0 1 0 2 1 4 0 3 1 4 3 1 9 9 0 0 0 0".to_string(),
+            format!("lookup 0 0 2 2 1 4 room {room}"),
+            format!("lookup 12 0 0 0 0 0 room {room}"),
+            format!("late 5 0 0 1 0 2 1 4 room {room}"),
+            format!("worst 0 0 2 room {room}"),
+        ]
+    );
+}
+
+#[test]
+fn rows_and_saves_are_told_with_what_they_are_lent() {
+    let room = checksum(&H2_ROOM);
+    let row = [0, 3, 1, 4, 3, 1, 9, 9];
+    let mut bytes = Vec::new();
+    for number in row {
+        bytes.extend([number, 0, 0, 0]);
+    }
+    let blank = 165 - 256;
+    let blank = i64::from(i32::from_le_bytes([blank as u8; 4]));
+    let unsigned = i64::from(blank as u32);
+    let third = [unsigned, unsigned, blank, blank];
+    assert_eq!(
+        told_after_h2(&[
+            "row places=1",
+            "row places=2",
+            "blank bytes=48 value=165",
+            "row places=3",
+            "save bytes=31",
+            "save bytes=33",
+        ]),
+        [
+            format!("row 13 0 0 room {room} row {}", checksum(&[0; 4])),
+            format!("row 0 0 2 room {room} row {}", checksum(&row)),
+            format!(
+                "row 0 0 2 room {room} row {}",
+                checksum(&[&row[..], &third].concat())
+            ),
+            format!("save 13 0 0 room {room} output {}", checksum(&[165; 31])),
+            format!(
+                "save 0 0 2 room {room} output {}",
+                checksum(&[&bytes[..], &[165]].concat())
+            ),
+        ]
+    );
+}
+
+#[test]
+fn files_are_loaded_and_changed() {
+    let told = told_after_h2(&[
+        "save bytes=32",
+        "take bytes=32",
+        "load steps=2",
+        "file bytes=31",
+        "load",
+        "file bytes=32",
+        "load",
+        // The second record's count.
+        "byte at=20 value=0",
+        "load",
+        // The first record twice, so the second does not start at the end of the first.
+        "copy from=0 to=1 count=1",
+        "load",
+        // Past the end nothing is copied and nothing put.
+        "copy from=0 to=4095 count=2",
+        "byte at=65536 value=1",
+        "record at=4096 start=1",
+        "record at=1 start=3 count=1 least=9 largest=9",
+        "load",
+    ]);
+    let starts: Vec<&str> = told
+        .iter()
+        .map(|line| line.split(" room").next().unwrap())
+        .collect();
+    assert_eq!(
+        starts,
+        [
+            "save 0 0 2",
+            "load 3 0 0 0 0 0 0 0",
+            "load 7 0 0 0 0 0 0 0",
+            "load 0 0 0 1 0 2 1 4",
+            "load 8 1 0 0 0 0 0 0",
+            "load 8 1 0 0 0 0 0 0",
+            "load 0 0 0 1 0 2 1 4",
+        ]
+    );
+    let bytes: Vec<i64> = [0, 3, 1, 4, 3, 1, 9, 9]
+        .iter()
+        .flat_map(|&number| [number, 0, 0, 0])
+        .collect();
+    assert!(told[6].ends_with(&format!(" file {}", checksum(&bytes))));
+}
+
+#[test]
+fn what_is_not_given_is_as_it_is_at_hand() {
+    let zeros = checksum(&[0; 16]);
+    let script = "room numbers=16\nopen kind=9 steps=1 gaps=1\nstate kind=7\nnext value=5\nstate used=3\nshow\nstate used=0\nlate value=5\n";
+    let lines = told::lines(script);
+    let lines: Vec<&str> = lines.lines().collect();
+    let mut numbers = [0; 16];
+    numbers[..4].copy_from_slice(&[0, 1, 5, 5]);
+    assert_eq!(
+        lines,
+        [
+            format!("open 0 0 1 1 1 0 0 0 room {zeros}"),
+            format!("next 5 0 7 1 1 0 0 0 room {zeros}"),
+            format!("show 7 1 1 3 0 0{}", " 0".repeat(16)),
+            format!("late 0 0 1 1 1 1 1 1 room {}", checksum(&numbers)),
+        ]
+    );
+}
+
+#[test]
+fn told_readings_show_the_tally() {
+    let script = "room numbers=12\nopen steps=1\ntally accepted=4294967294 refused=7\nnexttold value=3\nnexttold value=3\nlatetold tick=9\n";
+    let lines = told::lines(script);
+    let tallies: Vec<&str> = lines
+        .lines()
+        .filter_map(|line| line.split_once(" tally "))
+        .map(|(_, tally)| tally)
+        .collect();
+    assert_eq!(
+        tallies,
+        ["4294967295 7 0", "4294967295 7 0", "4294967295 8 0"]
+    );
+}
+
+#[test]
+fn level_and_error_are_told_alone() {
+    let script = "level least=-3 largest=0\nerror least=-3 largest=0\nlevel least=-2147483648 largest=2147483647\nerror least=-2147483648 largest=2147483647\n";
+    assert_eq!(
+        told::lines(script),
+        "level -1\nerror 2\nlevel 0\nerror 2147483648\n"
+    );
+}
+
+#[test]
+fn the_shapes_are_as_described() {
+    let first = |shape, seed| -> Vec<i32> {
+        let readings = shapes::readings(shape, seed).take(3);
+        readings.map(|reading| reading.value).collect()
+    };
+    assert_eq!(first(Shape::Constant, u32::MAX), [-1, -1, -1]);
+    assert_eq!(first(Shape::Ramp, u32::MAX - 3), [-4, -1, 2]);
+    assert_eq!(first(Shape::Square, 35), [60, 7_400, 60]);
+    assert_eq!(first(Shape::Square, 98), [12_050, 12_050, 60]);
+    assert_eq!(first(Shape::FullSwings, 1)[0], 270_369);
+    assert_eq!(first(Shape::FewLevels, 1)[0], 1);
+    assert_eq!(first(Shape::Noise, 1)[0], -766);
+    let ticks = |order| -> Vec<u32> {
+        let readings = shapes::readings(Shape::Constant, 1).take(10);
+        readings.map(|reading| reading.tick(order)).collect()
+    };
+    assert_eq!(ticks(0), [0, 1, 2, 3, 4, 5, 6, 7, 8, 9]);
+    assert_eq!(ticks(1)[..3], [16_777_215, 16_777_214, 16_777_213]);
+    assert_eq!(ticks(2), [0, 5, 2, 7, 4, 1, 6, 3, 8, 13]);
+    assert_eq!(ticks(3), [0, 2, 4, 6, 8, 10, 12, 14, 1, 3]);
+    assert_eq!(ticks(4), [0, 63, 1, 62, 2, 61, 3, 60, 4, 59]);
+    assert_eq!(ticks(5), [8, 9, 10, 11, 12, 13, 14, 15, 16, 17]);
+    assert_eq!(ticks(6)[0], 4);
+}

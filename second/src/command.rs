@@ -21,8 +21,8 @@
 //! | `load` | `kind steps gaps` | loads the lent file with these settings |
 //! | `level`, `error` | `start count least largest` | of that bucket |
 //! | `show` | | no call: the state at hand and every lent number |
-//! | `state` | `kind steps gaps used runs readings` | is the state at hand |
-//! | `tally` | `accepted refused merges` | is the tally |
+//! | `state` | `kind steps gaps used runs readings` | makes these the state at hand |
+//! | `tally` | `accepted refused merges` | makes these the tally |
 //! | `room` | `numbers` | so many numbers of the room are lent from now on |
 //! | `fill` | `value` | every lent number of the room is this |
 //! | `set` | `at value` | the number at an index |

@@ -20,7 +20,8 @@ int main(void)
     /* A relay's coil voltage in millivolts, with the two-reading drop that a good one shows. */
     static const int32_t relay[] = {12040, 12050, 12045, 12050, 12048, 7390, 7410, 12047, 12051, 12049, 60, 55, 62, 58};
     const ndz_settings settings = {NDZ_IN_ORDER, STEPS, 0};
-    int64_t room[NUMBERS], other_room[NUMBERS], row[NDZ_SLOT * BUCKETS];
+    int64_t room[NUMBERS], other_room[NUMBERS];
+    ndz_bucket row[BUCKETS];
     uint8_t file[NDZ_RECORD_BYTES * BUCKETS];
     ndz_state state, other;
 
@@ -45,10 +46,10 @@ int main(void)
     if (refused("load", ndz_take(&other, ndz_load(settings, file, NDZ_RECORD_BYTES * saved.buckets, other_room, NUMBERS))))
         return 1;
 
-    ndz_written shown = ndz_row(other, other_room, NUMBERS, row, NDZ_SLOT * BUCKETS);
+    ndz_written shown = ndz_row(other, other_room, NUMBERS, row, BUCKETS);
     if (refused("row", shown.refusal))
         return 1;
     for (size_t i = 0; i < shown.buckets; i++)
-        printf("%" PRId64 " %" PRId64 " %" PRId64 " %" PRId64 "\n", row[4 * i], row[4 * i + 1], row[4 * i + 2], row[4 * i + 3]);
+        printf("%" PRIu32 " %" PRIu32 " %" PRId32 " %" PRId32 "\n", row[i].start, row[i].count, row[i].least, row[i].largest);
     return 0;
 }

@@ -115,19 +115,16 @@ static int load(const char *path, ndz_state *state, int64_t *room)
 
 static int print(ndz_state state, const int64_t *room)
 {
-    int64_t row[NDZ_SLOT * BUCKETS];
-    ndz_written written = ndz_row(state, room, NUMBERS, row, NDZ_SLOT * BUCKETS);
+    ndz_bucket row[BUCKETS];
+    ndz_written written = ndz_row(state, room, NUMBERS, row, BUCKETS);
     ndz_worst_error worst = ndz_worst(state, room, NUMBERS);
     if (written.refusal != 0)
         return failed("row", ndz_refusal_text(written.refusal));
     if (worst.refusal != 0)
         return failed("worst", ndz_refusal_text(worst.refusal));
-    for (uint64_t i = 0; i < written.buckets; i++) {
-        const int64_t *b = row + NDZ_SLOT * i;
-        ndz_bucket bucket = {(uint32_t)b[0], (uint32_t)b[1], (int32_t)b[2], (int32_t)b[3]};
-        printf("%" PRIu32 " %" PRIu32 " %" PRId32 " %" PRId32 " %" PRId32 "\n", bucket.start, bucket.count, bucket.least, bucket.largest,
-               ndz_level(bucket));
-    }
+    for (uint64_t i = 0; i < written.buckets; i++)
+        printf("%" PRIu32 " %" PRIu32 " %" PRId32 " %" PRId32 " %" PRId32 "\n", row[i].start, row[i].count, row[i].least, row[i].largest,
+               ndz_level(row[i]));
     printf("%" PRIu64 " readings in %" PRIu64 " steps, worst error %" PRIu32 "\n", state.readings, state.used, worst.error);
     return fflush(stdout) == 0 ? 1 : failed("standard output", "cannot be written");
 }

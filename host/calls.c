@@ -10,11 +10,6 @@
 #include <sys/wait.h>
 #include <unistd.h>
 
-/* ---- the one place that says which calls the header has */
-
-#define HAS_WORST 1   /* ndz_worst, ndz_level, ndz_error */
-#define HAS_RECORDS 0 /* ndz_row by ndz_bucket records, ndz_next_tallied, ndz_late_tallied */
-
 enum { NUMBERS = 8192, BYTES = 65536, PLACES = BYTES / NDZ_RECORD_BYTES, LINE = 1024 };
 
 /* ---- what the script has made so far */
@@ -247,7 +242,6 @@ static void obey_save(void)
     letter('\n');
 }
 
-#if HAS_RECORDS
 static void obey_row(void)
 {
     size_t places = at_most(number[PLACE], PLACES);
@@ -281,30 +275,7 @@ static void obey_late_told(void)
     ndz_tally *lent = lend(tally_part, &tally, sizeof tally);
     told(ndz_late_tallied(state, lend_room(), numbers_lent, (uint32_t)number[TICK], (int32_t)number[VALUE], lent));
 }
-#else
-/* The row by four numbers a bucket. */
-static void obey_row(void)
-{
-    static int64_t four[NDZ_SLOT * PLACES];
-    size_t places = at_most(number[PLACE], PLACES);
-    for (size_t i = 0; i < places; i++) {
-        four[4 * i] = row[i].start;
-        four[4 * i + 1] = row[i].count;
-        four[4 * i + 2] = row[i].least;
-        four[4 * i + 3] = row[i].largest;
-    }
-    int64_t *lent = lend(row_part, four, NDZ_SLOT * places * sizeof *four);
-    ndz_written answer = ndz_row(state, lend_const_room(), numbers_lent, lent, NDZ_SLOT * places);
-    take_back(row_part, four);
-    for (size_t i = 0; i < places; i++)
-        row[i] = (ndz_bucket){(uint32_t)four[4 * i], (uint32_t)four[4 * i + 1], (int32_t)four[4 * i + 2], (int32_t)four[4 * i + 3]};
-    wrote(answer);
-    show_row(places);
-    letter('\n');
-}
-#endif
 
-#if HAS_WORST
 static void obey_worst(void)
 {
     ndz_worst_error answer = ndz_worst(state, lend_const_room(), numbers_lent);
@@ -333,7 +304,6 @@ static void obey_error(void)
     unsigned_number(ndz_error(bucket()));
     letter('\n');
 }
-#endif
 
 static void obey_show(void)
 {
@@ -444,15 +414,11 @@ static const struct {
     {"take", obey_take},
     {"tally", obey_tally},
     {"show", obey_show},
-#if HAS_WORST
     {"worst", obey_worst},
     {"level", obey_level},
     {"error", obey_error},
-#endif
-#if HAS_RECORDS
     {"nexttold", obey_next_told},
     {"latetold", obey_late_told},
-#endif
 };
 
 static void not_a_command(const char *line)

@@ -147,6 +147,10 @@ ndz_answer ndz_next(ndz_state state, int64_t *room, size_t numbers, int32_t valu
  * Refuses: NDZ_UNSOUND, NDZ_KIND, NDZ_TICK, NDZ_TAKEN, NDZ_RUNS. */
 ndz_answer ndz_late(ndz_state state, int64_t *room, size_t numbers, uint32_t tick, int32_t value);
 
+/* The same two, counted in a tally. Begin with zeros. */
+ndz_answer ndz_next_tallied(ndz_state state, int64_t *room, size_t numbers, int32_t value, ndz_tally *tally);
+ndz_answer ndz_late_tallied(ndz_state state, int64_t *room, size_t numbers, uint32_t tick, int32_t value, ndz_tally *tally);
+
 /* The step that holds a tick. Writes nothing.
  * Refuses: NDZ_UNSOUND, NDZ_TICK, NDZ_ABSENT. */
 ndz_found ndz_lookup(ndz_state state, const int64_t *room, size_t numbers, uint32_t tick);
@@ -155,10 +159,9 @@ ndz_found ndz_lookup(ndz_state state, const int64_t *room, size_t numbers, uint3
  * Refuses: NDZ_UNSOUND. */
 ndz_worst_error ndz_worst(ndz_state state, const int64_t *room, size_t numbers);
 
-/* The chart row: the buckets in tick order, four numbers each (start, count, least, largest), into the first places of `out`;
- * what lies behind them stays.
- * Refuses: NDZ_UNSOUND, NDZ_SHORT (`out` has fewer than four numbers for each bucket). */
-ndz_written ndz_row(ndz_state state, const int64_t *room, size_t numbers, int64_t *out, size_t out_numbers);
+/* The chart row: the buckets in tick order into the first places of `out`; what lies behind them stays.
+ * Refuses: NDZ_UNSOUND, NDZ_SHORT (`out` has fewer places than there are buckets; NDZ_MOST_BUCKETS are always enough). */
+ndz_written ndz_row(ndz_state state, const int64_t *room, size_t numbers, ndz_bucket *out, size_t places);
 
 /* Level and error of a bucket. */
 int32_t ndz_level(ndz_bucket bucket);

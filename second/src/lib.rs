@@ -17,5 +17,4 @@ pub mod script;
 pub mod scripts;
 pub mod session;
 pub mod shapes;
-pub mod tallies;
 pub mod told;

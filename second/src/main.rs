@@ -2,12 +2,12 @@
 
 use second::counts::{self, Met};
 use second::scripts::{self, chance};
-use second::{classes, lines, listing, sample, tallies, told};
+use second::{classes, lines, listing, sample, told};
 use std::fs;
 use std::io::{self, BufWriter, Read, Write};
 use std::process::ExitCode;
 
-const USAGE: &str = "second list | classes | lines N | sample [READINGS] | script NAME | script SEED CALLS | obey [COUNTS] | tallies | sum COUNTS.. | enough COUNTS..";
+const USAGE: &str = "second list | classes | lines N | sample [READINGS] | script NAME | script SEED CALLS | obey [COUNTS] | sum COUNTS.. | enough COUNTS..";
 
 fn main() -> ExitCode {
     let arguments: Vec<String> = std::env::args().skip(1).collect();
@@ -48,7 +48,6 @@ fn answer(words: &[&str], out: &mut impl Write) -> io::Result<bool> {
             let script = chance::of_seed(number(seed)?, number(calls)?);
             out.write_all(script.text.as_bytes())?;
         }
-        ["tallies"] => out.write_all(tallies::lines().as_bytes())?,
         ["obey"] => {
             told::obey(io::stdin().lock(), out)?;
         }

@@ -1,6 +1,6 @@
 // The listing program: a trace's lines from standard input, its buckets and their total to standard output, or the first refused line.
-use listing::feed;
-use listing::show;
+use lister::feed;
+use lister::show;
 
 mod ending;
 
@@ -10,8 +10,8 @@ fn main() {
     let mut line = [0u8; 64];
     let mut piece = io::large_buffer();
     let mut state = feed::begin(&mut room);
-    let mut turns: u64 = 18446744073709551615;
-    while 0 < turns {
+    let mut more = true;
+    while more {
         let got = libc::read(libc::STDIN_FILENO, &mut piece);
         if got < 0 {
             ending::unread();
@@ -19,13 +19,11 @@ fn main() {
         }
         let n = io::count(got, &piece);
         if n == 0 {
-            turns = 0;
+            more = false;
         } else {
             state = feed::piece(state, &mut room, &mut line, &piece[0..n]);
             if feed::ended(state) {
-                turns = 0;
-            } else {
-                turns -= 1;
+                more = false;
             }
         }
     }

@@ -1,8 +1,7 @@
--- Laws of the listing: its lines, what stands after them, reading in pieces, and what is shown.
+-- Laws of the listing: its lines, what stands after them, and reading in pieces.
 pub mod Pieces
 pub mod Splitting
 pub mod Standings
-pub mod Showing
 pub mod Listed
+pub mod Passing
 pub mod ByHand
-pub mod OneOutcome

@@ -36,7 +36,7 @@ use Rattle.listing.proofs.Splitting.{Unbroken, lines-ended, lines-longe
 use Rattle.listing.proofs.Standings.{Stood, Upright, few-lines, obeyed-upright, opened-upright}
 
 -- the reader, and what stands after the lines that it read
-abbrev reader : Answer → Stage → ℕ → ℕ → Feeding
+abbrev pub reader : Answer → Stage → ℕ → ℕ → Feeding
 reader a g n k = record { last = a; stage = g; lines = n; filled = k }
 
 abbrev standing : Answer → List ℤ → Stage → ℕ → Standing
@@ -95,7 +95,7 @@ answered-shows bs shows (Refused r) g n l line up wide = both-refused r g g n 0 
 answered-shows bs shows (Accepted t) g n l line up wide = shows t g n 0 l line up (fresh-line line wide)
 
 -- the count of lines does not wrap
-counts-on : {n : ℕ} → n ≤ ticks + 2 → (n + 1) % 2 ^ 64 ≡ suc n
+pub counts-on : {n : ℕ} → n ≤ ticks + 2 → (n + 1) % 2 ^ 64 ≡ suc n
 counts-on h = omega arith
 
 -- the line that the first k bytes are
@@ -153,15 +153,15 @@ more-shows b bs shows t g n k l line x y e h =
     shows t g n (k + 1) l (set line k b) x (longer-line k b line h e y) ∙ ap (λ (i : List ℕ). told (readAll (standing (Accepted t) l g n) (lines i))) same
 
 module _ (t : Trace) (f : Feeding) (l : List ℤ) (line : List ℕ) (b : ℕ) where
-  byte-ends : eqb b lineFeed ≡ true → let o = lineEnded f (t .state) l line in byteFed (Accepted t) f l line b ≡ (o .0, (o .1, line))
+  pub byte-ends : eqb b lineFeed ≡ true → let o = lineEnded f (t .state) l line in byteFed (Accepted t) f l line b ≡ (o .0, (o .1, line))
   unfolding byteFed
   byte-ends e = rw e
 
-  byte-lengthens : eqb b lineFeed ≡ false → ltb (f .filled) (length line) ≡ true → byteFed (Accepted t) f l line b ≡ (lengthened f, (l, set line (f .filled) b))
+  pub byte-lengthens : eqb b lineFeed ≡ false → ltb (f .filled) (length line) ≡ true → byteFed (Accepted t) f l line b ≡ (lengthened f, (l, set line (f .filled) b))
   unfolding byteFed
   byte-lengthens e h = rw (e, h)
 
-  byte-overflows : eqb b lineFeed ≡ false → ltb (f .filled) (length line) ≡ false → byteFed (Accepted t) f l line b ≡ (tooLong f, (l, line))
+  pub byte-overflows : eqb b lineFeed ≡ false → ltb (f .filled) (length line) ≡ false → byteFed (Accepted t) f l line b ≡ (tooLong f, (l, line))
   unfolding byteFed
   byte-overflows e h = rw (e, h)
 
@@ -233,8 +233,10 @@ whole-showable input out e =
     subst (λ (q : Seen). Showable (q .0) (q .1 .1) out) (sym (listed-whole input)) (upright-showable (y .last) (y .room) (y .stage) (y .count) out up e)
 
 pub lists : Lists
-unfolding output
+unfolding output begun
 lists = record {
+  default = λ l. refl;
+  longest = refl;
   listed = λ pieces. ap written (fed-joined start pieces) ∙ ap (λ (q : Seen). shown (q .0) (q .1 .0) (q .1 .1)) (listed-whole (joined pieces));
   showable = λ pieces out e. rw (fed-joined start pieces) (whole-showable (joined pieces) out e);
 }

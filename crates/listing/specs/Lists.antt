@@ -4,11 +4,15 @@ use mathlib.Core.Path.{_≡_}
 use mathlib.Core.List.{List, [], _∷_, _++_}
 use lib.IntN.{ℤ}
 use lib.ListN.{length, replicate}
+use Rattle.rule.specs.declared.Kind.the-variants.{InOrder}
+use Rattle.rule.specs.Calls.{opened}
 use Rattle.rule.specs.Room.{zeros}
+use Rattle.trace.specs.Answers.{answered}
 use Rattle.printing.specs.Printing.{lineRoom}
 use Rattle.text.specs.Reading.{lineMost}
 use Rattle.listing.specs.declared.Feeding.{Feeding}
-use Rattle.listing.specs.Listing.{output, roomSize, shown}
+use Rattle.listing.specs.declared.Stage.{Stage}
+use Rattle.listing.specs.Listing.{begun, output, roomSize, shown}
 use Rattle.listing.specs.Feeding.{Reader, Showable, fed, fresh, outputRoom, restFed}
 
 -- before the first byte, as the program lends room and line
@@ -33,6 +37,9 @@ abbrev pub written : Reader → List ℕ
 written x = let e = atEnd x in shown (e .0 .last) (e .0 .lines) (e .1)
 
 pub record Lists : Type 0 where
+  -- without a header B is 32, and a line has at most 64 bytes
+  pub default : (l : List ℤ) → let o = answered (opened (record { kind = InOrder; steps = 32; gaps = 0 }) l) in begun l ≡ record { last = o .0; room = o .1; stage = Stage.Nothing; count = 0 }
+  pub longest : lineMost ≡ 64
   -- what is shown is the listing of the input
   pub listed : (pieces : List (List ℕ)) → written (fedAll start pieces) ≡ output (joined pieces)
   -- and it fits the output that the program lends

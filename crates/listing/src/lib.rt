@@ -1,6 +1,4 @@
-// The listing: what lies between the bytes that a program reads and those that it writes. What is right stands in specs/.
-pub mod feed;
-pub mod show;
+// The listing as one definition, in specs/, and the same read in pieces; here only the types that the reader has.
 
 use trace::Answer;
 

@@ -2,15 +2,16 @@
 use Prim.Native.Nat.{ℕ, zero, suc}
 use mathlib.Core.List.{List}
 use lib.IntN.{ℤ, pos}
+use Rattle.rule.specs.declared.Bucket.{Bucket}
 use Rattle.rule.specs.declared.Kind.{Kind}
 use Rattle.rule.specs.declared.Kind.the-variants.{InOrder, Late}
 use Rattle.rule.specs.declared.Settings.{Settings}
 use Rattle.rule.specs.declared.State.{State}
 use Rattle.rule.specs.declared.Found.{Found}
+use Rattle.rule.specs.declared.Tally.{Tally}
 use Rattle.rule.specs.declared.Written.{Written}
 use Rattle.rule.specs.Answers.{number, place}
-use Rattle.rule.specs.Calls.{lateOutcome, loaded, lookupOutcome, nextOutcome, opened, saveOutcome}
-use Rattle.row.specs.Parts.{numbersOutcome}
+use Rattle.rule.specs.Calls.{counted, lateOutcome, loaded, lookupOutcome, nextOutcome, opened, rowOutcome, saveOutcome}
 use Rattle.trace.specs.Answers.{answered}
 use Rattle.trace.specs.declared.Answer.{Answer}
 use Rattle.worst.specs.declared.Measured.{Measured}
@@ -83,14 +84,21 @@ nextReply state room value = replied state (answered (nextOutcome (stateFrom sta
 abbrev pub lateReply : Fields → List ℤ → ℕ → ℤ → Reply × List ℤ
 lateReply state room tick value = replied state (answered (lateOutcome (stateFrom state) room tick value))
 
+-- and the tally after a counted reading: of the tally before, the slots in use before and the reading's verdict
+abbrev pub nextTally : Fields → List ℤ → ℤ → Tally → Tally
+nextTally state room value before = counted before (state .used) (nextOutcome (stateFrom state) room value .0)
+
+abbrev pub lateTally : Fields → List ℤ → ℕ → ℤ → Tally → Tally
+lateTally state room tick value before = counted before (state .used) (lateOutcome (stateFrom state) room tick value .0)
+
 abbrev pub lookupReply : Fields → List ℤ → ℕ → Shown
 lookupReply state room tick = showing (lookupOutcome (stateFrom state) room tick)
 
 abbrev pub worstReply : Fields → List ℤ → WorstError
 worstReply state room = erring (worstOutcome (stateFrom state) room)
 
-abbrev pub rowReply : Fields → List ℤ → List ℤ → Counted × List ℤ
-rowReply state room out = told (numbersOutcome (stateFrom state) room out)
+abbrev pub rowReply : Fields → List ℤ → List Bucket → Counted × List Bucket
+rowReply state room out = told (rowOutcome (stateFrom state) room out)
 
 abbrev pub saveReply : Fields → List ℤ → List ℕ → Counted × List ℕ
 saveReply state room out = told (saveOutcome (stateFrom state) room out)

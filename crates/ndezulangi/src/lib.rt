@@ -1,13 +1,14 @@
-// The calls for other languages: plain C functions over lent numbers and bytes, the state as plain fields. include/ndezulangi.h is their manual.
+// The calls for other languages: plain C functions over lent numbers, bytes and records, the state as plain fields. include/ndezulangi.h is their manual.
 // Each hands on to the call of its name and does nothing of its own.
 ghost use mathlib.Core.Path.{_≡_};
 ghost use Rattle.rule.specs.Bucket.{error, level};
-ghost use Rattle.ndezulangi.specs.Plain.{erring, fieldsOf, kindOf, lateReply, loadReply, lookupReply, nextReply, none, numberOf, openReply, replying, rowReply, saveReply, settingsOf, showing, stateFrom, telling, worstReply};
+ghost use Rattle.ndezulangi.specs.Plain.{erring, fieldsOf, kindOf, lateReply, lateTally, loadReply, lookupReply, nextReply, nextTally, none, numberOf, openReply, replying, rowReply, saveReply, settingsOf, showing, stateFrom, telling, worstReply};
 use rule::Bucket;
 use rule::Found;
 use rule::Kind;
 use rule::Settings;
 use rule::State;
+use rule::Tally;
 use rule::Written;
 use trace::Answer;
 use trace::Trace;
@@ -247,6 +248,36 @@ pub extern "C" fn ndz_late(state: Fields, room: &mut [i64], tick: u32, value: i3
     replying(state, trace.late(&mut *room, tick, value))
 }
 
+// The two readings, counted in a tally that is lent with them.
+#[no_mangle]
+pub extern "C" fn ndz_next_tallied(
+    state: Fields,
+    room: &mut [i64],
+    value: i32,
+    tally: &mut Tally,
+) -> Reply
+    ensures { λ r. ⌜ ((r, now (room .exit)) ≡ nextReply state (now (room .entry)) value) × (now (tally .exit) ≡ nextTally state (now (room .entry)) value (now (tally .entry))) ⌝ }
+{
+    let trace = trace_of(state);
+    let a = tally::next(trace, &mut *room, value, &mut *tally);
+    replying(state, a)
+}
+
+#[no_mangle]
+pub extern "C" fn ndz_late_tallied(
+    state: Fields,
+    room: &mut [i64],
+    tick: u32,
+    value: i32,
+    tally: &mut Tally,
+) -> Reply
+    ensures { λ r. ⌜ ((r, now (room .exit)) ≡ lateReply state (now (room .entry)) tick value) × (now (tally .exit) ≡ lateTally state (now (room .entry)) tick value (now (tally .entry))) ⌝ }
+{
+    let trace = trace_of(state);
+    let a = tally::late(trace, &mut *room, tick, value, &mut *tally);
+    replying(state, a)
+}
+
 #[no_mangle]
 pub extern "C" fn ndz_lookup(state: Fields, room: &[i64], tick: u32) -> Shown
     ensures { λ r. ⌜ r ≡ lookupReply state (now (room .entry)) tick ⌝ }
@@ -263,13 +294,13 @@ pub extern "C" fn ndz_worst(state: Fields, room: &[i64]) -> WorstError
     erring(worst::worst(trace, room))
 }
 
-// Four numbers a bucket, as in the room.
+// The buckets as records, in the first places of the output.
 #[no_mangle]
-pub extern "C" fn ndz_row(state: Fields, room: &[i64], out: &mut [i64]) -> Counted
+pub extern "C" fn ndz_row(state: Fields, room: &[i64], out: &mut [Bucket]) -> Counted
     ensures { λ r. ⌜ (r, now (out .exit)) ≡ rowReply state (now (room .entry)) (now (out .entry)) ⌝ }
 {
     let trace = trace_of(state);
-    telling(row::numbers(trace, room, &mut *out))
+    telling(row::row(trace, room, &mut *out))
 }
 
 #[no_mangle]

@@ -198,12 +198,12 @@ loaded-said g file l = answered (kept g) l (loadVerdict (kept g) file l) (openRo
 
 -- ---- the record rules
 
-lawful : (k : Kind) (e : ℕ) (b : Bucket) → Meets k e b → Lawful k e b
+pub lawful : (k : Kind) (e : ℕ) (b : Bucket) → Meets k e b → Lawful k e b
 unfolding follows late
 lawful InOrder e b m = record { count = m .positive; inside = m .inside; ordered = m .ordered; alone = m .single-level; in-order = λ _. eqb-true (b .start) e (m .follow); not-below = λ h. absurd (false≢true h) }
 lawful Late e b m = record { count = m .positive; inside = m .inside; ordered = m .ordered; alone = m .single-level; in-order = λ h. absurd (false≢true (sym h)); not-below = λ _. leb-true e (b .start) (m .follow) }
 
-law-meets : (k : Kind) (e : ℕ) (b : Bucket) → Lawful k e b → Meets k e b
+pub law-meets : (k : Kind) (e : ℕ) (b : Bucket) → Lawful k e b → Meets k e b
 unfolding follows late
 law-meets InOrder e b m = record { positive = m .count; inside = m .inside; ordered = m .ordered; single-level = m .alone; follow = eq-eqb (b .start) e (m .in-order refl) }
 law-meets Late e b m = record { positive = m .count; inside = m .inside; ordered = m .ordered; single-level = m .alone; follow = le-leb e (b .start) (m .not-below refl) }

@@ -14,22 +14,22 @@ use Rattle.rule.specs.declared.Refusal.{Refusal}
 use Rattle.rule.specs.declared.Refusal.the-variants.{Steps, Gaps, Room, Unsound, Kind, Tick, Length, Record, Runs, Overfull, Taken, Absent, Short, Line}
 use Rattle.rule.specs.declared.Settings.{Settings}
 use Rattle.rule.specs.declared.State.{State}
+use Rattle.rule.specs.declared.Tally.{Tally}
 use Rattle.rule.specs.declared.Found.{Found}
 use Rattle.rule.specs.declared.Written.{Written}
 use Rattle.rule.specs.Answers.{number, place}
 use Rattle.rule.specs.Bucket.{distance}
 use Rattle.rule.specs.Bytes.{saved}
-use Rattle.rule.specs.Calls.{Verdict, accepted, checked, found, foundOf, isHeld, kept, late, lateOutcome, lateVerdict, loaded, lookupOutcome, nextOutcome, nextVerdict, opened, refused, saveOutcome, traced, writeVerdict, wrote}
+use Rattle.rule.specs.Calls.{Verdict, accepted, checked, counted, found, foundOf, grown, isHeld, kept, late, lateOutcome, lateVerdict, loaded, lookupOutcome, nextOutcome, nextVerdict, opened, refused, rowOutcome, saveOutcome, traced, writeVerdict, wrote}
 use Rattle.rule.specs.Numbers.{recordWidth, slotWidth, ticks}
-use Rattle.rule.specs.Room.{allOf, clauses, flat, sound, stepsGood, tableOf}
+use Rattle.rule.specs.Room.{allOf, clauses, sound, stepsGood, tableOf}
 use Rattle.rule.specs.Table.{Table, holding, holds, needed, worst}
 use Rattle.rule.proofs.Whole.{by-test}
 use Rattle.rule.proofs.Tables.{one}
 use Rattle.record.proofs.RoundTrip.{length-saved}
-use Rattle.slots.proofs.Laying.{length-flat, length-slots}
+use Rattle.slots.proofs.Laying.{length-slots}
 use Rattle.room.proofs.Placing.{held-counts}
 use Rattle.room.proofs.Sounding.{sound-facts, sound-ordered}
-use Rattle.row.specs.Parts.{numbersOutcome}
 use Rattle.trace.specs.Answers.{answer, answered}
 use Rattle.worst.specs.declared.Measured.{Measured}
 use Rattle.worst.specs.Outcome.{measured, worstOutcome}
@@ -43,7 +43,7 @@ use Rattle.ndezulangi.specs.Plain.{erring, fieldsOf, kindOf, lookupReply, none,
 use Rattle.ndezulangi.proofs.SameState.{same-state}
 use Rattle.promises.specs.Answered.{Answered, Row, fileRows, firstOf, lateRows, lookupRows, nextRows, openRows, said, saidFound, saidMeasured, saidWritten, worstRows, writeRows}
 use Rattle.promises.specs.Reached.{Reached}
-use Rattle.promises.specs.Exported.{Called, Counts, Errs, ExportedDemand1, ExportedDemand2, Promised, Replies, Shows, firstDue, wroteAll}
+use Rattle.promises.specs.Exported.{Called, Counts, Errs, ExportedDemand1, ExportedDemand2, Promised, Replies, Shows, Tallies, firstDue, wroteAll}
 use Rattle.promises.proofs.Answering.{demand1, needed-is}
 use Rattle.promises.proofs.Keeping.{held-small, keeps, kept-same, kept-twice, loaded-kept}
 use Rattle.promises.proofs.Outcomes.{next-in-order}
@@ -60,10 +60,31 @@ unfolding firstDue firstOf
 due [] = refl
 due (r ∷ rs) = by-test (r .due) (λ h. rw h) (λ h. rw h (due rs))
 
+numbered : (r : Refusal) → 1 ≤ number r
+numbered Steps = omega arith
+numbered Gaps = omega arith
+numbered Room = omega arith
+numbered Unsound = omega arith
+numbered Kind = omega arith
+numbered Tick = omega arith
+numbered Length = omega arith
+numbered (Record i) = omega arith
+numbered Runs = omega arith
+numbered Overfull = omega arith
+numbered Taken = omega arith
+numbered Absent = omega arith
+numbered Short = omega arith
+numbered Line = omega arith
+
 replies : (back : Fields) (v : Verdict State) (rows : List Row) (before after : List ℤ) → Answered (said v) rows before after → Replies rows back before after (replying back (answer v))
 unfolding said replying answer
 replies back (refused r) rows before after a = record { exactly = ap saying (a .exactly) ∙ sym (due rows); untouched = λ h. (refl, a .untouched (number r, place r) refl) }
 replies back (accepted s) rows before after a = record { exactly = ap saying (a .exactly) ∙ sym (due rows); untouched = λ h. absurd (h refl) }
+
+tallies : (back : Fields) (used : ℕ) (v : Verdict State) (t : Tally) → Tallies used (replying back (answer v)) t (counted t used v)
+unfolding said counted grown replying answer
+tallies back used (refused r) t = record { counts-refused = λ h. demand1 .tally t used (refused r) (number r, place r) refl; counts-accepted = λ h. absurd (omega (arith, h, numbered r)) }
+tallies back used (accepted s) t = record { counts-refused = λ h. absurd (h refl); counts-accepted = λ h. refl }
 
 shows-found : (f : Found) (rows : List Row) → saidFound f ≡ firstOf rows → Shows rows (showing f)
 unfolding saidFound showing
@@ -91,9 +112,11 @@ exported-demand1 = record {
   opens = λ named l. let g = settingsOf named in replies none (opened g l .0) (openRows g l) l (opened g l .1) (demand1 .opens g l);
   nexts = λ f l v. let s = stateFrom f in replies f (nextOutcome s l v .0) (nextRows s l) l (nextOutcome s l v .1) (demand1 .nexts s l v);
   lates = λ f l tick v. let s = stateFrom f in replies f (lateOutcome s l tick v .0) (lateRows s l tick v) l (lateOutcome s l tick v .1) (demand1 .lates s l tick v);
+  next-tallies = λ f l v. tallies f (f .used) (nextOutcome (stateFrom f) l v .0);
+  late-tallies = λ f l tick v. tallies f (f .used) (lateOutcome (stateFrom f) l tick v .0);
   lookups = λ f l tick. let s = stateFrom f in shows-found (lookupOutcome s l tick) (lookupRows s l tick) (demand1 .lookups s l tick);
   worsts = λ f l. let s = stateFrom f in errs (worstOutcome s l) (worstRows s l) (demand1 .worsts s l);
-  rows = λ f l out. let s = stateFrom f in counts (numbersOutcome s l out .0) (writeRows s l (length out) (slotWidth * f .used)) out (numbersOutcome s l out .1) (demand1 .numbers s l out);
+  rows = λ f l out. let s = stateFrom f in counts (rowOutcome s l out .0) (writeRows s l (length out) (f .used)) out (rowOutcome s l out .1) (demand1 .rows s l out);
   saves = λ f l out. let s = stateFrom f in counts (saveOutcome s l out .0) (writeRows s l (length out) (recordWidth * f .used)) out (saveOutcome s l out .1) (demand1 .saves s l out);
   loads = λ named file l. let g = settingsOf named in replies none (loaded g file l .0) (openRows g l ++ fileRows g file) l (loaded g file l .1) (demand1 .loads g file l);
   places = λ named file l e. let g = settingsOf named in demand1 .places g file l (replying none (answer (loaded g file l .0)) .place) (eight none (loaded g file l .0) e);
@@ -103,22 +126,6 @@ exported-demand1 = record {
 }
 
 -- ---- a reply, taken apart by its refusal
-
-numbered : (r : Refusal) → 1 ≤ number r
-numbered Steps = omega arith
-numbered Gaps = omega arith
-numbered Room = omega arith
-numbered Unsound = omega arith
-numbered Kind = omega arith
-numbered Tick = omega arith
-numbered Length = omega arith
-numbered (Record i) = omega arith
-numbered Runs = omega arith
-numbered Overfull = omega arith
-numbered Taken = omega arith
-numbered Absent = omega arith
-numbered Short = omega arith
-numbered Line = omega arith
 
 module _ (back : Fields) where
   -- refusal 0: the call was accepted, and the reply's state is the call's
@@ -209,10 +216,10 @@ worst-of f l fit = rw fit
 
 -- ---- what ndz_row and ndz_save write of it
 
-wrote-all : {A : Type 0} (form : Table → List A) (width : ℕ) (f : Fields) (l : List ℤ) (out : List A) → ((t : Table) → length (form t) ≡ width * length t) → sound (stateFrom f) l ≡ true → width * f .used ≤ length out
-    → told (wrote form out (writeVerdict (stateFrom f) l (width * f .used) (length out))) ≡ (wroteAll (f .used), form (tableOf (stateFrom f) l) ++ drop (width * f .used) out)
+wrote-all : {A : Type 0} (form : Table → List A) (taken : ℕ) (f : Fields) (l : List ℤ) (out : List A) → length (form (tableOf (stateFrom f) l)) ≡ taken → sound (stateFrom f) l ≡ true → taken ≤ length out
+    → told (wrote form out (writeVerdict (stateFrom f) l taken (length out))) ≡ (wroteAll (f .used), form (tableOf (stateFrom f) l) ++ drop taken out)
 unfolding writeVerdict checked wrote telling
-wrote-all form width f l out wide fit h = rw (fit, le-ltb (length out) (width * f .used) h, wide (tableOf (stateFrom f) l), length-slots l 0 (f .used))
+wrote-all form taken f l out long fit h = rw (fit, le-ltb (length out) taken h, long, length-slots l 0 (f .used))
 
 same-test : (c d : Bool) → one c ≡ one d → c ≡ d
 same-test true true e = refl
@@ -238,8 +245,8 @@ promises {named} {rs} {f} {l} c =
       size = k .size;
       runs = k .runs;
       readings = k .readings;
-      row = λ out long. wrote-all flat slotWidth f l out length-flat (k .fit) long ∙ ap (λ (x : Table). (wroteAll (f .used), flat x ++ drop (slotWidth * f .used) out)) (k .buckets);
-      save = λ out long. wrote-all saved recordWidth f l out length-saved (k .fit) long ∙ ap (λ (x : Table). (wroteAll (f .used), saved x ++ drop (recordWidth * f .used) out)) (k .buckets);
+      row = λ out long. wrote-all (λ t. t) (f .used) f l out (length-slots l 0 (f .used)) (k .fit) long ∙ ap (λ (x : Table). (wroteAll (f .used), x ++ drop (f .used) out)) (k .buckets);
+      save = λ out long. wrote-all saved (recordWidth * f .used) f l out (length-saved t ∙ ap (λ (n : ℕ). recordWidth * n) (length-slots l 0 (f .used))) (k .fit) long ∙ ap (λ (x : Table). (wroteAll (f .used), saved x ++ drop (recordWidth * f .used) out)) (k .buckets);
       load = λ other room same long.
           let h : Settings = settingsOf other in
           let bytes : List ℕ = saved t in

@@ -1,45 +1,49 @@
 -- Demands 2 and 3 hold of everything that can be reached.
 use Prim.Native.Nat.{ℕ, _+_, _*_, _≤_, _<_}
 use mathlib.Core.Path.{_≡_, refl, sym, ap, _∙_, subst}
-use mathlib.Core.Bool.{true, false, cond, true≢false, false≢true}
-use mathlib.Core.List.{List, [], _∷_, List·Memᴰ, List·Memᴰ·cases-cons, List·Memᴰ·not-nil}
+use mathlib.Core.Bool.{Bool, true, false, cond, true≢false, false≢true}
+use mathlib.Core.List.{List, [], _∷_, List·Memᴰ, List·Memᴰ·head, List·Memᴰ·tail, List·Memᴰ·cases-cons, List·Memᴰ·not-nil}
 use mathlib.Core.Logic.{⊎-elim}
 use mathlib.Core.Option.{Option, some}
 use native.Mathlib.Omega.{arith}
 use borrow.Author.Tests.{eqb-true, lt-leb}
 use lib.IntN.{ℤ}
-use lib.ListN.{take}
+use lib.ListN.{length, take}
 use Rattle.rule.specs.declared.Bucket.{Bucket}
 use Rattle.rule.specs.declared.Kind.{Kind}
 use Rattle.rule.specs.declared.Kind.the-variants.{InOrder, Late}
 use Rattle.rule.specs.declared.Settings.{Settings}
 use Rattle.rule.specs.declared.State.{State}
 use Rattle.rule.specs.declared.Found.{Found}
-use Rattle.rule.specs.Bucket.{end, error, level}
+use Rattle.rule.specs.Bucket.{end, error, level, spread}
 use Rattle.rule.specs.Bytes.{saved}
 use Rattle.rule.specs.Calls.{Verdict, accepted, checked, foundOf, found, gapsKept, isHeld, kept, late, lateVerdict, loaded, loadVerdict, lookupOutcome, nextVerdict, admitted, stateOf, traced}
-use Rattle.rule.specs.Numbers.{recordWidth, ticks}
+use Rattle.rule.specs.Numbers.{recordWidth, slotWidth, ticks}
 use Rattle.rule.specs.Room.{laid, slots, sound, tableOf}
-use Rattle.rule.specs.Table.{Table, Ordered, accept, holders, holding, holds, lastEnd, limit, needed, nextTick, readings, runs}
+use Rattle.rule.specs.Table.{Table, Ordered, accept, holders, holding, holds, lastEnd, limit, limitOver, needed, nextTick, readings, runs}
 use Rattle.rule.specs.Rules.{follows}
 use Rattle.rule.proofs.Ruling.{Ruled}
 use Rattle.rule.proofs.Tables.{held-member, held-once, held-within, one}
-use Rattle.rule.proofs.Whole.{by-test}
+use Rattle.rule.proofs.Whole.{by-test, distance-is, whole}
+use Rattle.rule.proofs.Fitting.{Fitted, Fitting}
+use Rattle.slots.proofs.Fitting.{fitted-slots}
 use Rattle.slots.proofs.Laying.{length-slots, slots-laid}
 use Rattle.room.proofs.Placing.{held-counts}
 use Rattle.rule.proofs.Signed.{signed-fits}
 use Rattle.room.proofs.Sounding.{sound-facts, sound-ordered}
 use Rattle.settings.proofs.Bounds.{steps-bounds}
 use Rattle.trace.specs.Left.{LeavesSound, LeftBy}
-use Rattle.saved.proofs.RoundTrips.{saved-accepted}
+use Rattle.saved.proofs.Filing.{save-writes}
+use Rattle.saved.proofs.RoundTrips.{loaded-saved, saved-accepted, saved-loaded, saved-loaded-slots}
 use Rattle.trace.proofs.Arriving.{late-free}
 use Rattle.trace.proofs.Leaving.{late-either, late-leaves, next-either, next-leaves, open-either, open-leaves}
-use Rattle.demands.specs.History.{Accepted, Reading, Takes, runsOf, tableAfter}
+use Rattle.demands.specs.History.{Accepted, Reading, Takes, arrived, runsOf, tableAfter}
 use Rattle.demands.specs.Served.{Served}
-use Rattle.demands.proofs.Instance.{demand3}
+use Rattle.demands.proofs.Instance.{demand3 as of-tables}
 use Rattle.promises.specs.Reached.{Reached, SameSettings, late-refused, lates, load-refused, loads, next-refused, nexts, open-refused, opens}
-use Rattle.promises.specs.Demands.{Upheld}
-use Rattle.promises.proofs.Answering.{limit-is}
+use Rattle.promises.specs.Answered.{slotsNeeded}
+use Rattle.promises.specs.Demands.{Demand2, Demand3, Upheld}
+use Rattle.promises.proofs.Answering.{limit-is, needed-is}
 use Rattle.promises.proofs.Outcomes.{accepted-is, bytes-written, not-accepted, traced-refused}
 
 -- ---- along the way
@@ -189,7 +193,7 @@ keeps {g} {rs} {s} {l} r =
     let k = known r in
     let f = sound-facts s l (k .fit) in
     let positive : 1 ≤ s .settings .steps = steps-bounds (s .settings) (f .steps-good) .0 in
-    let d = demand3 (s .settings) rs positive (k .taken) in
+    let d = of-tables (s .settings) rs positive (k .taken) in
     let v : Served (s .settings .kind) (2 * s .settings .steps) rs (tableOf s l) (d .0) = subst (λ (t : Table). Served (s .settings .kind) (2 * s .settings .steps) rs t (d .0)) (sym (k .buckets)) (d .1) in
     let same : s .settings .steps ≡ g .steps = ap (λ (x : Settings). x .steps) (k .named) in
     record {
@@ -219,3 +223,45 @@ keeps {g} {rs} {s} {l} r =
   where
     is-held : (o : Option Bucket) {b : Bucket} → o ≡ some b → one (isHeld o) ≡ 1
     is-held o e = rw e
+
+-- ---- the two demands
+
+-- two numbers of 32 bits are less than 2 ^ 32 apart
+spread-small : (b : Bucket) → Fitting b → spread b ≤ 4294967295
+spread-small b f = omega (whole, distance-is (b .largest) (b .least), f .least, f .largest)
+
+fitting-member : {b : Bucket} {t : Table} → Fitted t → List·Memᴰ b t → Fitting b
+unfolding Fitted
+fitting-member f (List·Memᴰ·head e) = subst Fitting (sym e) (f .0)
+fitting-member f (List·Memᴰ·tail m) = fitting-member (f .1) m
+
+counted-once : (c : Bool) → 1 ≤ cond c 1 0 → c ≡ true
+counted-once true h = refl
+counted-once false h = absurd (omega arith)
+
+late-limit : (k : Kind) (base : ℕ) → late k ≡ true → limitOver k base 1 ≡ base + 1
+unfolding late limitOver
+late-limit InOrder base e = absurd (false≢true e)
+late-limit Late base e = refl
+
+pub demand2 : Demand2
+demand2 = record {
+  buckets = λ r. keeps r .buckets;
+  extremes = λ r. keeps r .extremes;
+  gapless = λ {g} {rs} {s} {l} r b m tick h. counted-once (arrived tick rs) (omega (arith, keeps r .covers tick, held-member tick m h));
+  spreads = λ {g} {rs} {s} {l} r b m. spread-small b (fitting-member (fitted-slots l 0 (s .used) (sound-facts s l (keeps r .fit) .ranges)) m);
+  one-run = λ g e. late-limit (g .kind) (2 * g .steps) e;
+  saves = λ {g} {rs} {s} {l} r out long. save-writes s l out (keeps r .fit) long;
+  saved-loaded = λ {g} {h} {rs} {s} {l} r same room long.
+      let k = keeps r in
+      let sized : needed (s .settings) ≡ slotsNeeded g = ap needed (k .named) ∙ needed-is g in
+      let enough : slotWidth * needed (s .settings) ≤ length room = omega (arith, sized, long) in
+      let by : loaded h (saved (tableOf s l)) room ≡ loaded (s .settings) (saved (tableOf s l)) room = loaded-kept (s .settings) h (saved (tableOf s l)) room (kept-same h g same ∙ sym (kept-twice g) ∙ ap kept (sym (k .named))) in (
+        ap (λ (o : Verdict State × List ℤ). o .0) (by ∙ saved-loaded s l room (k .fit) enough),
+        subst (λ (n : ℕ). take (4 * n) (loaded h (saved (tableOf s l)) room .1) ≡ take (4 * n) l) sized (ap (λ (o : Verdict State × List ℤ). take (4 * needed (s .settings)) (o .1)) by ∙ saved-loaded-slots s l room (k .fit) enough),
+      );
+  loaded-saved = loaded-saved;
+}
+
+pub demand3 : Demand3
+demand3 = record { picture = λ r. keeps r .picture; size = λ r. keeps r .size; covers = λ r. keeps r .covers }

@@ -3,3 +3,4 @@ pub mod Outcomes
 pub mod Keeping
 pub mod Answering
 pub mod Exporting
+pub mod Soundly

@@ -1,22 +1,26 @@
--- Demands 2 and 3 of a state and a room that were reached.
-use Prim.Native.Nat.{ℕ, _≤_}
+-- Demands 2 and 3: of a state and a room that were reached, and of everything that can be.
+use Prim.Native.Nat.{ℕ, _≤_, _+_, _*_, _/_}
 use mathlib.Core.Path.{_≡_}
 use mathlib.Core.Bool.{true, false, cond}
-use mathlib.Core.List.{List, List·Memᴰ}
+use mathlib.Core.List.{List, _++_, List·Memᴰ}
 use lib.IntN.{ℤ}
-use lib.ListN.{length}
+use lib.ListN.{drop, length, take}
 use Rattle.rule.specs.declared.Bucket.{Bucket}
 use Rattle.rule.specs.declared.Found.{Found}
 use Rattle.rule.specs.declared.Settings.{Settings}
 use Rattle.rule.specs.declared.State.{State}
-use Rattle.rule.specs.Bucket.{distance, error, level}
-use Rattle.rule.specs.Calls.{kept, late, lookupOutcome}
+use Rattle.rule.specs.declared.Written.{Written}
+use Rattle.rule.specs.Bucket.{distance, error, level, spread}
+use Rattle.rule.specs.Bytes.{saved}
+use Rattle.rule.specs.Calls.{accepted, kept, late, loaded, lookupOutcome, saveOutcome}
 use Rattle.rule.specs.Room.{sound, tableOf}
-use Rattle.rule.specs.Table.{holders, holds, nextTick, worst}
+use Rattle.rule.specs.Table.{holders, holds, limit, nextTick, worst}
+use Rattle.saved.specs.Bytes.{AllBytes}
 use Rattle.demands.specs.Curve.{Curve, steps}
 use Rattle.demands.specs.History.{Reading, arrived, runsOf, tableAfter}
 use Rattle.demands.specs.Served.{Extremes, Near}
-use Rattle.promises.specs.Answered.{mostSteps}
+use Rattle.promises.specs.Answered.{mostSteps, slotsNeeded}
+use Rattle.promises.specs.Reached.{Reached, SameSettings}
 
 -- lookup itself answers, at the reading's tick, a level within E of the reading
 pub record Seen (E : ℕ) (s : State) (l : List ℤ) (r : Reading) : Type 0 where
@@ -50,3 +54,33 @@ pub record Upheld (g : Settings) (rs : List Reading) (s : State) (l : List ℤ) 
   pub covers : (tick : ℕ) → holders tick (tableOf s l) ≡ cond (arrived tick rs) 1 0
   -- a bucket's least and largest are the least and largest reading among exactly its ticks
   pub extremes : (b : Bucket) → List·Memᴰ b (tableOf s l) → Extremes rs b
+
+-- Demand 2: the buckets are those of the min-merge rule (late: its fragment form), and save and load round-trip both ways.
+pub record Demand2 : Type 0 where
+  -- after any calls they are the rule's, applied to the accepted readings, with the settings named at the opening
+  pub buckets : {g : Settings} {rs : List Reading} {s : State} {l : List ℤ} → Reached g rs s l → tableOf s l ≡ tableAfter (kept g) rs
+  -- each has the least and the largest reading among exactly its ticks
+  pub extremes : {g : Settings} {rs : List Reading} {s : State} {l : List ℤ} → Reached g rs s l → (b : Bucket) → List·Memᴰ b (tableOf s l) → Extremes rs b
+  -- none spans a tick that has not arrived
+  pub gapless : {g : Settings} {rs : List Reading} {s : State} {l : List ℤ} → Reached g rs s l → (b : Bucket) → List·Memᴰ b (tableOf s l) → (tick : ℕ) → holds tick b ≡ true → arrived tick rs ≡ true
+  pub spreads : {g : Settings} {rs : List Reading} {s : State} {l : List ℤ} → Reached g rs s l → (b : Bucket) → List·Memᴰ b (tableOf s l) → spread b ≤ 4294967295
+  -- late, readings that happen to arrive in order are one run: the limit is 2B + 1
+  pub one-run : (g : Settings) → late (g .kind) ≡ true → limit g 1 ≡ 2 * g .steps + 1
+  -- save writes the buckets and nothing behind them, and load of these bytes with the same settings is the same trace, the same state and the same slots
+  pub saves : {g : Settings} {rs : List Reading} {s : State} {l : List ℤ} → Reached g rs s l → (out : List ℕ) → 16 * s .used ≤ length out
+      → saveOutcome s l out ≡ (Written.Buckets (s .used), saved (tableOf s l) ++ drop (16 * s .used) out)
+  pub saved-loaded : {g h : Settings} {rs : List Reading} {s : State} {l : List ℤ} → Reached g rs s l → SameSettings h g → (room : List ℤ) → 4 * slotsNeeded g ≤ length room
+      → let o = loaded h (saved (tableOf s l)) room in (o .0 ≡ accepted s) × (take (4 * slotsNeeded g) (o .1) ≡ take (4 * slotsNeeded g) l)
+  -- and bytes from anywhere that load accepts are the bytes that save writes of what it left
+  pub loaded-saved : (g : Settings) (file : List ℕ) (l : List ℤ) (t : State) (out : List ℕ) → AllBytes file → loaded g file l .0 ≡ accepted t → length file ≤ length out
+      → saveOutcome t (loaded g file l .1) out ≡ (Written.Buckets (length file / 16), file ++ drop (length file) out)
+
+-- Demand 3: nobody could have served better with half as many steps.
+pub record Demand3 : Type 0 where
+  -- for every curve of at most B flat steps: where all readings are within E of it, lookup shows each within E, and the worst error is at most E
+  pub picture : {g : Settings} {rs : List Reading} {s : State} {l : List ℤ} → Reached g rs s l → (c : Curve) (E : ℕ) → steps c ≤ g .steps → Near E c rs
+      → ((r : Reading) → List·Memᴰ r rs → Seen E s l r) × (worst (tableOf s l) ≤ E)
+  -- ours has at most 2B steps, late one more for each unbroken run
+  pub size : {g : Settings} {rs : List Reading} {s : State} {l : List ℤ} → Reached g rs s l → s .used ≤ mostSteps g (runsOf rs)
+  -- and covers exactly the ticks of the accepted readings, each once
+  pub covers : {g : Settings} {rs : List Reading} {s : State} {l : List ℤ} → Reached g rs s l → (tick : ℕ) → holders tick (tableOf s l) ≡ cond (arrived tick rs) 1 0

@@ -1,5 +1,5 @@
 -- The demands of the exported functions, for a stranger who calls them from C: what each answers and leaves, and what any sequence of them keeps.
-use Prim.Native.Nat.{ℕ, suc, _*_, _/_, _≤_}
+use Prim.Native.Nat.{ℕ, suc, _+_, _-_, _*_, _/_, _≤_, min}
 use mathlib.Core.Path.{_≡_}
 use mathlib.Core.Logic.{_≢_}
 use mathlib.Core.Bool.{true, false, cond}
@@ -9,11 +9,12 @@ use lib.IntN.{ℤ, pos}
 use lib.ListN.{drop, length, take}
 use Rattle.rule.specs.declared.Bucket.{Bucket}
 use Rattle.rule.specs.declared.Kind.the-variants.{InOrder, Late}
+use Rattle.rule.specs.declared.Tally.{Tally}
 use Rattle.rule.specs.Bucket.{distance, error, level}
 use Rattle.rule.specs.Bytes.{saved}
 use Rattle.rule.specs.Calls.{kept, late}
 use Rattle.rule.specs.Files.{FirstBroken}
-use Rattle.rule.specs.Room.{flat, signed, sound}
+use Rattle.rule.specs.Room.{signed, sound}
 use Rattle.rule.specs.Table.{Table, holds, worst}
 use Rattle.saved.specs.Bytes.{AllBytes}
 use Rattle.demands.specs.Curve as curve
@@ -26,7 +27,7 @@ use Rattle.ndezulangi.specs.declared.Named.{Named}
 use Rattle.ndezulangi.specs.declared.Reply.{Reply}
 use Rattle.ndezulangi.specs.declared.Shown.{Shown}
 use Rattle.ndezulangi.specs.declared.WorstError.{WorstError}
-use Rattle.ndezulangi.specs.Plain.{fieldsOf, kindOf, lateReply, loadReply, lookupReply, nextReply, none, numberOf, openReply, rowReply, saveReply, settingsOf, stateFrom, worstReply}
+use Rattle.ndezulangi.specs.Plain.{fieldsOf, kindOf, lateReply, lateTally, loadReply, lookupReply, nextReply, nextTally, none, numberOf, openReply, rowReply, saveReply, settingsOf, stateFrom, worstReply}
 use Rattle.promises.specs.Answered.{Row, fileRows, lateRows, lookupRows, mostSteps, nextRows, openRows, slotsNeeded, worstRows, writeRows}
 use Rattle.promises.specs.Demands.{Upheld}
 use Rattle.promises.specs.Reached.{SameSettings}
@@ -58,15 +59,23 @@ pub record Counts {A : Type 0} (rows : List Row) (before after : List A) (c : Co
   pub exactly : (c .refusal, c .place) ≡ firstDue rows
   pub untouched : c .refusal ≢ 0 → (c .buckets ≡ 0) × (after ≡ before)
 
+-- of a tallied reading on a trace with so many slots in use before: refused, the count of the refused changes and no other; accepted, that of the accepted, and merges by the buckets that are gone. Each stops at 4294967295
+pub record Tallies (used : ℕ) (r : Reply) (before after : Tally) : Type 0 where
+  pub counts-refused : r .refusal ≢ 0 → after ≡ record { accepted = before .accepted; refused = min (before .refused + 1) 4294967295; merges = before .merges }
+  pub counts-accepted : r .refusal ≡ 0 → after ≡ record { accepted = min (before .accepted + 1) 4294967295; refused = before .refused; merges = min (before .merges + (used + 1 - r .state .used)) 4294967295 }
+
 -- of each function, for any numbers and bytes: open and load hand back zeros where they are refused, the two readings the state that was given
 pub record ExportedDemand1 : Type 0 where
   pub opens : (named : Named) (l : List ℤ) → let o = openReply named l in Replies (openRows (settingsOf named) l) none l (o .1) (o .0)
   pub nexts : (f : Fields) (l : List ℤ) (v : ℤ) → let o = nextReply f l v in Replies (nextRows (stateFrom f) l) f l (o .1) (o .0)
   pub lates : (f : Fields) (l : List ℤ) (tick : ℕ) (v : ℤ) → let o = lateReply f l tick v in Replies (lateRows (stateFrom f) l tick v) f l (o .1) (o .0)
+  -- the tallied readings reply and leave the room as these two do, and leave the tally so
+  pub next-tallies : (f : Fields) (l : List ℤ) (v : ℤ) (t : Tally) → Tallies (f .used) (nextReply f l v .0) t (nextTally f l v t)
+  pub late-tallies : (f : Fields) (l : List ℤ) (tick : ℕ) (v : ℤ) (t : Tally) → Tallies (f .used) (lateReply f l tick v .0) t (lateTally f l tick v t)
   pub lookups : (f : Fields) (l : List ℤ) (tick : ℕ) → Shows (lookupRows (stateFrom f) l tick) (lookupReply f l tick)
   pub worsts : (f : Fields) (l : List ℤ) → Errs (worstRows (stateFrom f) l) (worstReply f l)
-  -- four numbers a bucket
-  pub rows : (f : Fields) (l : List ℤ) (out : List ℤ) → let o = rowReply f l out in Counts (writeRows (stateFrom f) l (length out) (4 * f .used)) out (o .1) (o .0)
+  -- a record a bucket
+  pub rows : (f : Fields) (l : List ℤ) (out : List Bucket) → let o = rowReply f l out in Counts (writeRows (stateFrom f) l (length out) (f .used)) out (o .1) (o .0)
   -- sixteen bytes a bucket
   pub saves : (f : Fields) (l : List ℤ) (out : List ℕ) → let o = saveReply f l out in Counts (writeRows (stateFrom f) l (length out) (16 * f .used)) out (o .1) (o .0)
   pub loads : (named : Named) (file : List ℕ) (l : List ℤ) → let o = loadReply named file l in
@@ -77,14 +86,14 @@ pub record ExportedDemand1 : Type 0 where
   pub kinds : (kindOf 0 ≡ InOrder) × ((n : ℕ) → kindOf (suc n) ≡ Late)
   -- the zeros that a refused open or load hands back are sound in no room, so no call accepts them
   pub unsound : (l : List ℤ) → sound (stateFrom none) l ≡ false
-  pub unusable : (l : List ℤ) (tick : ℕ) (v : ℤ) (out : List ℤ) (bytes : List ℕ)
+  pub unusable : (l : List ℤ) (tick : ℕ) (v : ℤ) (out : List Bucket) (bytes : List ℕ)
       → nextReply none l v .0 .refusal ∷ lateReply none l tick v .0 .refusal ∷ lookupReply none l tick .refusal ∷ worstReply none l .refusal ∷ rowReply none l out .0 .refusal ∷ saveReply none l bytes .0 .refusal ∷ []
       ≡ 4 ∷ 4 ∷ 4 ∷ 4 ∷ 4 ∷ 4 ∷ []
 
 -- ---- demands 2 and 3
 
 -- What a caller can reach from ndz_open with the settings named, each call getting the state and the room as the last one left them:
--- the caller has the state f, and the room holds l, after the accepted readings rs, newest first. Lookup, worst, row and save write neither.
+-- the caller has the state f, and the room holds l, after the accepted readings rs, newest first. Lookup, worst, row and save write neither, and a tallied reading is the reading, for state and room.
 pub data Called (named : Named) : List Reading → Fields → List ℤ → Type 0 where
   -- opened empty, in any room
   opens : {r : Reply} {m : List ℤ} (l : List ℤ) → openReply named l ≡ (r, m) → r .refusal ≡ 0 → Called named [] (r .state) m
@@ -133,7 +142,7 @@ pub record Promised (named : Named) (rs : List Reading) (f : Fields) (l : List �
   pub runs : f .runs ≡ runsOf rs
   pub readings : f .readings ≡ length rs
   -- demand 2: ndz_row and ndz_save write the buckets of the rule, where the output is long enough, and nothing behind them
-  pub row : (out : List ℤ) → 4 * f .used ≤ length out → rowReply f l out ≡ (wroteAll (f .used), flat (bucketsOf named rs) ++ drop (4 * f .used) out)
+  pub row : (out : List Bucket) → f .used ≤ length out → rowReply f l out ≡ (wroteAll (f .used), bucketsOf named rs ++ drop (f .used) out)
   pub save : (out : List ℕ) → 16 * f .used ≤ length out → saveReply f l out ≡ (wroteAll (f .used), saved (bucketsOf named rs) ++ drop (16 * f .used) out)
   -- and ndz_load of these bytes by the same settings, into any room that is long enough, hands back the same state
   pub load : (other : Named) (room : List ℤ) → SameSettings (settingsOf other) (settingsOf named) → 4 * slotsNeeded (settingsOf named) ≤ length room

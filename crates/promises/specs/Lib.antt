@@ -3,3 +3,4 @@ pub mod Answered
 pub mod Reached
 pub mod Demands
 pub mod Exported
+pub mod Sound

@@ -81,6 +81,7 @@ pub enum Written {
 }
 
 // The session tally. Each count stops at the largest u32.
+#[repr(C)]
 pub struct Tally {
     pub accepted: u32,
     pub refused: u32,

@@ -1,5 +1,4 @@
 -- Laws that belong to no one function.
-mod Counting
-mod Operands
+pub mod Reading
 pub mod Balance
 pub mod OneOutcome

@@ -9,7 +9,7 @@ use trace::Answer;
 use trace::Trace;
 
 // Where a count stops.
-const MOST: u32 = 4294967295;
+const STOP: u32 = 4294967295;
 
 // A reading's answer, with the tally for callers who pass it by value.
 pub struct Tallied {
@@ -20,9 +20,9 @@ pub struct Tallied {
 fn grown(count: u32, by: usize) -> u32
     ensures { λ r. ⌜ r ≡ grown count by ⌝ }
 {
-    let left = MOST - count;
+    let left = STOP - count;
     if (left as usize) < by {
-        MOST
+        STOP
     } else {
         count + by as u32
     }

@@ -13,13 +13,14 @@ use lib.Seq.{drop-append-add, take-append-seam}
 use mir.Syntax.{w32}
 use mir.Val.{SFits}
 use Rattle.rule.specs.Numbers.{word}
-use Rattle.rule.proofs.Signed.{fits-signed, fits-unsigned}
+use Rattle.rule.proofs.Signed.{fits-signed, fits-unsigned, signed-fits}
 use Rattle.rule.proofs.Whole.{by-test}
 use Rattle.text.specs.declared.Number.{Number}
 use Rattle.text.specs.declared.Unsigned.{Unsigned}
 use Rattle.text.specs.declared.Signed.{Signed}
 use Rattle.text.specs.declared.Line.{Line}
 use Rattle.printing.specs.Signs.{nine, nought, space}
+use Rattle.text.specs.Back.{Back}
 use Rattle.text.specs.Reading.{digits, digitsAfter, firstSpace, isDigit, lateWord, lineOf, negated, number, same, signedField, spaced, stepsWord, unsignedField}
 use Rattle.printing.specs.Printing.{decimal, digit, whole}
 use Rattle.text.proofs.Lines.{digit-range, not-whole, number-plain}
@@ -71,7 +72,7 @@ decimal-first : (n : ℕ) → (nought ≤ getD (decimal n) 0 0) × (getD (decima
 decimal-first n =
     digit-range (getD (decimal n) 0 0) (first-digit 0 (decimal n) (pos n) (some-digit n) (in-steps (suc n) n (omega arith)))
 
-pub number-back : (z : ℤ) → natAbs z < 10 ^ 10 → number (whole z) ≡ Number.Whole z
+number-back : (z : ℤ) → natAbs z < 10 ^ 10 → number (whole z) ≡ Number.Whole z
 unfolding whole number negated
 number-back (pos n) h = number-plain (decimal n) (λ e. omega (arith, decimal-first n)) ∙ digits-back n h
 number-back (negsuc n) h = rw (digits-back (suc n) h)
@@ -130,22 +131,22 @@ decimal-back : (n : ℕ) → n < word → number (decimal n) ≡ Number.Whole (p
 unfolding whole
 decimal-back n h = number-back (pos n) (omega arith)
 
-pub steps-back : (n : ℕ) → n < word → lineOf (stepsWord ++ (space ∷ decimal n)) ≡ Line.Steps n
+steps-back : (n : ℕ) → n < word → lineOf (stepsWord ++ (space ∷ decimal n)) ≡ Line.Steps n
 unfolding firstSpace spaced same
 steps-back n h =
     two-fields stepsWord (decimal n) refl (omega (arith, short 9 n (omega arith))) ∙ rw (decimal-back n h, unsigned-in n h)
 
-pub late-back : (n : ℕ) → n < word → lineOf (lateWord ++ (space ∷ decimal n)) ≡ Line.Late n
+late-back : (n : ℕ) → n < word → lineOf (lateWord ++ (space ∷ decimal n)) ≡ Line.Late n
 unfolding firstSpace spaced same
 late-back n h =
     two-fields lateWord (decimal n) refl (omega (arith, short 9 n (omega arith))) ∙ rw (decimal-back n h, unsigned-in n h)
 
-pub alone-back : (z : ℤ) → SFits w32 z → lineOf (whole z) ≡ Line.Alone z
+alone-back : (z : ℤ) → SFits w32 z → lineOf (whole z) ≡ Line.Alone z
 unfolding lineOf
 alone-back z h =
     rw (le-ltb 64 (length (whole z)) (omega (arith, whole-short z h)), eq-eqb (firstSpace (whole z)) (length (whole z)) (whole-spaceless z), number-back z (size z h), signed-in z h)
 
-pub pair-back : (t : ℕ) (z : ℤ) → t < word → SFits w32 z → lineOf (decimal t ++ (space ∷ whole z)) ≡ Line.Pair t z
+pair-back : (t : ℕ) (z : ℤ) → t < word → SFits w32 z → lineOf (decimal t ++ (space ∷ whole z)) ≡ Line.Pair t z
 unfolding spaced
 pair-back t z h g =
     two-fields (decimal t) (whole z) (decimal-spaceless t) (omega (arith, short 9 t (omega arith), whole-short z g))
@@ -153,3 +154,12 @@ pair-back t z h g =
   where
     no-word : (w : List ℕ) → 1 ≤ length w → nine < getD w 0 0 → same (decimal t) w ≡ false
     no-word w a b = same-first (decimal t) w a (λ e. omega (arith, decimal-first t))
+
+pub back : Back
+back = record {
+  numbers = number-back;
+  steps = steps-back;
+  late = late-back;
+  alone = λ z h. alone-back z (signed-fits z h);
+  pair = λ t z h k. pair-back t z h (signed-fits z k);
+}

@@ -38,6 +38,15 @@ lines =
     ∷ ("1\r", Unreadable)
     ∷ ("1\t2", Unreadable)
     ∷ ("-1 2", Unreadable)
+    ∷ ("0 -5", Pair 0 (negsuc 4))
+    ∷ ("-0 5", Pair 0 (pos 5))
+    ∷ ("-0000000000 -0000000005", Pair 0 (negsuc 4))
+    ∷ ("4294967295 -2147483648", Pair 4294967295 (negsuc 2147483647))
+    ∷ ("5:", Unreadable)
+    ∷ ("5/", Unreadable)
+    ∷ ("stepsx 1", Unreadable)
+    ∷ ("step 1", Unreadable)
+    ∷ ("steps -0", Steps 0)
     ∷ []
 
 pub record ByHand : Type 0 where

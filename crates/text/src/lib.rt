@@ -1,9 +1,8 @@
 // What a line of the input means, its bytes read. What is right stands in specs/.
 ghost use mathlib.Core.Path.{_≡_};
 ghost use Rattle.text.specs.Reading.{alone, digits, firstSpace, isDigit, late, lineOf, number, pair, same, signedField, spaced, steps, unsignedField};
+use rule::WORD;
 
-// An unsigned number of 32 bits is below this.
-const WORD: i64 = 4294967296;
 // The least signed number of 32 bits.
 const LOWEST: i64 = -2147483648;
 // A signed number of 32 bits is below this.

@@ -11,5 +11,4 @@ mod round_trips;
 mod script;
 mod sound;
 mod support;
-mod tallies;
 mod wrong_ways;

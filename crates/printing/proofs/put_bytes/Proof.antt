@@ -15,24 +15,6 @@ Inv-loop out₀ at s i₀ out i = (i ≤ length s) × ((length out ≡ length ou
 abbrev μ-loop : tie.MeasureT-loop
 μ-loop out₀ at s i₀ out i = length s - i
 
-loop-holds : tie.Need-loop-holds Inv-loop μ-loop
-loop-holds c = (omega arith, (refl, stores-start (now (c .args .out)) (c .args .at) (now (c .args .s))))
-
-shared-slice-read-out : tie.Need-shared-slice-read-out Inv-loop μ-loop
-shared-slice-read-out c = omega arith
-
-add-out : tie.Need-add-out Inv-loop μ-loop
-add-out c = omega arith
-
-slice-write-out : tie.Need-slice-write-out Inv-loop μ-loop
-slice-write-out c = omega arith
-
-add-i : tie.Need-add-i Inv-loop μ-loop
-add-i c = omega arith
-
-loop-less : tie.Need-loop-less Inv-loop μ-loop
-loop-less c = omega arith
-
 loop-again : tie.Need-loop-again Inv-loop μ-loop
 loop-again c =
     let start = c .before .before .before in
@@ -43,12 +25,6 @@ loop-again c =
         sym (stores-next (loop .out) (start .args .at) (now (start .args .s)) (loop .i) (c .before .loop-test .taken)) ∙ loop .inv .1 .1,
       ),
     )
-
-add-result : tie.Need-add-result Inv-loop μ-loop
-add-result c = omega arith
-
-same-length : tie.Need-same-length Inv-loop μ-loop
-same-length c = c .before .loop .inv .1 .0
 
 returns : tie.Need-returns Inv-loop μ-loop
 returns c =
@@ -66,13 +42,13 @@ put-bytes-spec =
     (tie.spec
     Inv-loop
     μ-loop
-    loop-holds
-    shared-slice-read-out
-    add-out
-    slice-write-out
-    add-i
-    loop-less
+    (λ c. (omega arith, (refl, stores-start (now (c .args .out)) (c .args .at) (now (c .args .s)))))  -- loop-holds
+    (λ c. omega arith)  -- shared-slice-read-out
+    (λ c. omega arith)  -- add-out
+    (λ c. omega arith)  -- slice-write-out
+    (λ c. omega arith)  -- add-i
+    (λ c. omega arith)  -- loop-less
     loop-again
-    add-result
-    same-length
+    (λ c. omega arith)  -- add-result
+    (λ c. c .before .loop .inv .1 .0)  -- same-length
     returns)

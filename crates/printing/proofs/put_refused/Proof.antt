@@ -22,20 +22,8 @@ after-line : (c : tie.After-put-number) → c .put-number .result + 35 ≤ lengt
 after-line c =
     omega (arith, fields (c .before .before .before .before), after-word (c .before .before .before .before), simp length-append at (c .put-number .ensures .next), c .put-number .kept .0)
 
-slice-aggregate-put-bytes : tie.Need-slice-aggregate-put-bytes
-slice-aggregate-put-bytes c = search needs
-
-put-bytes-requires : tie.Need-put-bytes-requires
-put-bytes-requires c κs = search needs
-
-put-number-requires : tie.Need-put-number-requires
-put-number-requires c κs = omega (arith, fields (c .before .before .before), after-word (c .before .before .before))
-
 put-number-requires-2 : tie.Need-put-number-requires-2
 put-number-requires-2 c κs = omega (arith, fields (c .before .before .before .before .before .before .before), after-line (c .before .before .before))
-
-same-length : tie.Need-same-length
-same-length c = search needs
 
 returns : tie.Need-returns
 unfolding refused line
@@ -45,9 +33,9 @@ pub put-refused-spec : {M : Type 1} → statement M
 put-refused-spec =
     tie.close
     (tie.spec
-    slice-aggregate-put-bytes
-    put-bytes-requires
-    put-number-requires
+    (λ c. search needs)  -- slice-aggregate-put-bytes
+    (λ c κs. search needs)  -- put-bytes-requires
+    (λ c κs. omega (arith, fields (c .before .before .before), after-word (c .before .before .before)))  -- put-number-requires
     put-number-requires-2
-    same-length
+    (λ c. search needs)  -- same-length
     returns)

@@ -49,34 +49,13 @@ after-largest : (c : tie.After-put-whole2) → c .put-whole2 .result + 18 ≤ le
 after-largest c =
     field-room (whole (c .before .before .before .before .before .before .before .before .before .before .before .before .before .before .before .before .before .before .before .args .b .largest)) space 11 18 (largest-short (c .before)) (after-least (c .before .before .before .before .before)) (rw (largest-read (c .before)) at (c .put-whole2 .ensures))
 
-cast-put-number : tie.Need-cast-put-number
-cast-put-number c = search needs
-
-put-number-requires : tie.Need-put-number-requires
-put-number-requires c κs = omega (arith, start-short c)
-
-cast-put-number-2 : tie.Need-cast-put-number-2
-cast-put-number-2 c = search needs
-
-put-number-requires-2 : tie.Need-put-number-requires-2
-put-number-requires-2 c κs = omega (arith, count-short c, after-start (c .before .before .before .before))
-
-put-whole-requires : tie.Need-put-whole-requires
-put-whole-requires c κs = rw (least-read c) (omega (arith, least-short c, after-count (c .before .before .before .before)))
-
 put-whole-requires-2 : tie.Need-put-whole-requires-2
 put-whole-requires-2 c κs = rw (largest-read c) (omega (arith, largest-short c, after-least (c .before .before .before .before)))
-
-level-requires : tie.Need-level-requires
-level-requires c κs = search needs
 
 put-whole-requires-3 : tie.Need-put-whole-requires-3
 put-whole-requires-3 c κs =
     rw (read w32 (c .level .result) (c .level .ok))
     (omega (arith, whole-short (c .level .result) (sfits-of (c .level .ok)), after-largest (c .before .before .before .before)))
-
-same-length : tie.Need-same-length
-same-length c = search needs
 
 returns : tie.Need-returns
 unfolding row line
@@ -93,13 +72,13 @@ pub put-row-spec : {M : Type 1} → statement M
 put-row-spec =
     tie.close
     (tie.spec
-    cast-put-number
-    put-number-requires
-    cast-put-number-2
-    put-number-requires-2
-    put-whole-requires
+    (λ c. search needs)  -- cast-put-number
+    (λ c κs. omega (arith, start-short c))  -- put-number-requires
+    (λ c. search needs)  -- cast-put-number-2
+    (λ c κs. omega (arith, count-short c, after-start (c .before .before .before .before)))  -- put-number-requires-2
+    (λ c κs. rw (least-read c) (omega (arith, least-short c, after-count (c .before .before .before .before))))  -- put-whole-requires
     put-whole-requires-2
-    level-requires
+    (λ c κs. search needs)  -- level-requires
     put-whole-requires-3
-    same-length
+    (λ c. search needs)  -- same-length
     returns)

@@ -26,15 +26,6 @@ after-buckets : (c : tie.After-put-number2) → c .put-number2 .result + 16 ≤ 
 after-buckets c =
     omega (arith, fields (c .before .before .before .before .before .before .before .before), after-readings (c .before .before .before .before), simp length-append at (c .put-number2 .ensures .next), c .put-number2 .kept .0)
 
-slice-aggregate-put-bytes : tie.Need-slice-aggregate-put-bytes
-slice-aggregate-put-bytes c = search needs
-
-put-bytes-requires : tie.Need-put-bytes-requires
-put-bytes-requires c κs = search needs
-
-put-number-requires : tie.Need-put-number-requires
-put-number-requires c κs = omega (arith, fields (c .before .before .before), after-word (c .before .before .before))
-
 put-number-requires-2 : tie.Need-put-number-requires-2
 put-number-requires-2 c κs = omega (arith, fields (c .before .before .before .before .before .before .before), after-readings (c .before .before .before))
 
@@ -42,9 +33,6 @@ put-number-requires-3 : tie.Need-put-number-requires-3
 put-number-requires-3 c κs =
     let start = c .before .before .before .before .before .before .before .before .before .before .before .before .before .before .before in
     omega (arith, short 9 (start .args .worst) (omega (arith, start .fits .worst)), after-buckets (c .before .before .before))
-
-same-length : tie.Need-same-length
-same-length c = search needs
 
 returns : tie.Need-returns
 unfolding total line
@@ -54,10 +42,10 @@ pub put-total-spec : {M : Type 1} → statement M
 put-total-spec =
     tie.close
     (tie.spec
-    slice-aggregate-put-bytes
-    put-bytes-requires
-    put-number-requires
+    (λ c. search needs)  -- slice-aggregate-put-bytes
+    (λ c κs. search needs)  -- put-bytes-requires
+    (λ c κs. omega (arith, fields (c .before .before .before), after-word (c .before .before .before)))  -- put-number-requires
     put-number-requires-2
     put-number-requires-3
-    same-length
+    (λ c. search needs)  -- same-length
     returns)

@@ -34,12 +34,6 @@ positive (negsuc n) h = absurd (omega whole)
 opposite : {z : ℤ} → SFits w32 z → toZ w64 (ofZ w64 (pos 0 -ℤ toZ w64 (ofZ w64 (toZ w32 (ofZ w32 z))))) ≡ pos 0 -ℤ z
 opposite {z} h = rw (widened w64 tt h) (toZ-ofZ (opposite-fits z h))
 
-put-byte-requires : tie.Need-put-byte-requires
-put-byte-requires c κs = search needs
-
-cast-put-number : tie.Need-cast-put-number
-cast-put-number c = widens w64 tt (c .before .before .before .before .before .before .before .fits .z)
-
 sub-put-number : tie.Need-sub-put-number
 sub-put-number c = rw (widened w64 tt (c .before .before .before .before .before .before .before .fits .z)) (opposite-fits (c .before .before .before .before .before .before .before .args .z) (c .before .before .before .before .before .before .before .fits .z))
 
@@ -57,15 +51,9 @@ cast-put-number-3 c = rw (toZ-ofZ (c .before .before .before .fits .z)) (positiv
 put-number-requires-2 : tie.Need-put-number-requires-2
 put-number-requires-2 c κs = rw (toZ-ofZ (c .before .before .before .fits .z)) (omega (arith, ap length (not-below-zero (c .before .before .before .args .z) (rw (toZ-ofZ (c .before .before .before .fits .z)) at (c .before .if1 .left)))))
 
-same-length : tie.Need-same-length
-same-length c = search needs
-
 returns : tie.Need-returns
 returns c =
     rw (below-zero (c .before .before .before .before .before .before .before .before .before .before .args .z) (rw (toZ-ofZ (c .before .before .before .before .before .before .before .before .before .before .fits .z)) at (c .before .before .before .before .before .before .before .before .if1 .taken))) (then (c .before .before .before .before .before .before .put-byte .ensures) (rw (opposite (c .before .before .before .before .before .before .before .before .before .before .fits .z), size (c .before .before .before .before .before .before .before .before .before .before .args .z)) at (c .before .before .put-number .ensures)))
-
-same-length-2 : tie.Need-same-length-2
-same-length-2 c = search needs
 
 returns-2 : tie.Need-returns-2
 returns-2 c = rw (not-below-zero (c .before .before .before .before .before .before .args .z) (rw (toZ-ofZ (c .before .before .before .before .before .before .fits .z)) at (c .before .before .before .before .if1 .left))) (rw (toZ-ofZ (c .before .before .before .before .before .before .fits .z)) at (c .before .before .put-number2 .ensures))
@@ -74,14 +62,14 @@ pub put-whole-spec : {M : Type 1} → statement M
 put-whole-spec =
     tie.close
     (tie.spec
-    put-byte-requires
-    cast-put-number
+    (λ c κs. search needs)  -- put-byte-requires
+    (λ c. widens w64 tt (c .before .before .before .before .before .before .before .fits .z))  -- cast-put-number
     sub-put-number
     cast-put-number-2
     put-number-requires
     cast-put-number-3
     put-number-requires-2
-    same-length
+    (λ c. search needs)  -- same-length
     returns
-    same-length-2
+    (λ c. search needs)  -- same-length-2
     returns-2)

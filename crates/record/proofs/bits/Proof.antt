@@ -22,25 +22,17 @@ same : (c : tie.Else1) → toZ w32 (ofZ w32 (c .before .args .v)) ≡ pos (bits 
 same c =
     let r = toZ-ofZ (c .before .fits .v) in r ∙ not-below-zero (c .before .args .v) (rw r at (c .if1 .left))
 
-cast-result : tie.Need-cast-result
-cast-result c = widens w64 tt (c .before .fits .v)
-
-add-result : tie.Need-add-result
-add-result c = rw (widened w64 tt (c .before .fits .v), more c) (wide (c .before .fits .v))
-
 cast-result-2 : tie.Need-cast-result-2
 cast-result-2 c =
     rw (widened w64 tt (c .before .fits .v), more c, toZ-ofZ (wide (c .before .fits .v))) (tt, bits-fit (c .before .fits .v))
 
-cast-result-3 : tie.Need-cast-result-3
-cast-result-3 c = rw (same c) (tt, bits-fit (c .before .fits .v))
-
-returns : tie.Need-returns
-returns c = rw (widened w64 tt (c .before .fits .v), more c, toZ-ofZ (wide (c .before .fits .v)))
-
-returns-2 : tie.Need-returns-2
-returns-2 c = rw (same c)
-
 pub bits-spec : {M : Type 1} → statement M
 bits-spec =
-    tie.close (tie.spec cast-result add-result cast-result-2 cast-result-3 returns returns-2)
+    tie.close
+    (tie.spec
+    (λ c. widens w64 tt (c .before .fits .v))  -- cast-result
+    (λ c. rw (widened w64 tt (c .before .fits .v), more c) (wide (c .before .fits .v)))  -- add-result
+    cast-result-2
+    (λ c. rw (same c) (tt, bits-fit (c .before .fits .v)))  -- cast-result-3
+    (λ c. rw (widened w64 tt (c .before .fits .v), more c, toZ-ofZ (wide (c .before .fits .v))))  -- returns
+    (λ c. rw (same c)))  -- returns-2

@@ -22,21 +22,6 @@ abbrev μ-loop : tie.MeasureT-loop
 few : (c : tie.Start Inv-loop μ-loop) → readingsLeft (now (c .args .file)) (length (now (c .args .file)) / recordWidth) 0 ≤ ticks
 few c = rw (readings-whole (now (c .args .file))) (c .pre)
 
-loop-holds : tie.Need-loop-holds Inv-loop μ-loop
-loop-holds c = omega arith
-
-read-requires : tie.Need-read-requires Inv-loop μ-loop
-read-requires c κs = omega arith
-
-starts-run-requires : tie.Need-starts-run-requires Inv-loop μ-loop
-starts-run-requires c κs = search needs
-
-add-runs : tie.Need-add-runs Inv-loop μ-loop
-add-runs c = omega (arith, at-most-one (c .before .before .before .loop .end) (c .before .read .result .start))
-
-cast-readings : tie.Need-cast-readings Inv-loop μ-loop
-cast-readings c = search needs
-
 add-readings : tie.Need-add-readings Inv-loop μ-loop
 add-readings c =
     let l = now (c .before .before .before .before .before .before .args .file) in
@@ -45,15 +30,6 @@ add-readings c =
     let more : loop .i < length l / recordWidth = omega arith in
     omega
     (arith, few (c .before .before .before .before .before .before), readings-next l _ (loop .end) (loop .i) (read .result) (read .ensures) more)
-
-end-requires : tie.Need-end-requires Inv-loop μ-loop
-end-requires c κs = search needs
-
-add-i : tie.Need-add-i Inv-loop μ-loop
-add-i c = omega arith
-
-loop-less : tie.Need-loop-less Inv-loop μ-loop
-loop-less c = omega arith
 
 loop-again : tie.Need-loop-again Inv-loop μ-loop
 loop-again c =
@@ -88,14 +64,14 @@ counts-spec =
     (tie.spec
     Inv-loop
     μ-loop
-    loop-holds
-    read-requires
-    starts-run-requires
-    add-runs
-    cast-readings
+    (λ c. omega arith)  -- loop-holds
+    (λ c κs. omega arith)  -- read-requires
+    (λ c κs. search needs)  -- starts-run-requires
+    (λ c. omega (arith, at-most-one (c .before .before .before .loop .end) (c .before .read .result .start)))  -- add-runs
+    (λ c. search needs)  -- cast-readings
     add-readings
-    end-requires
-    add-i
-    loop-less
+    (λ c κs. search needs)  -- end-requires
+    (λ c. omega arith)  -- add-i
+    (λ c. omega arith)  -- loop-less
     loop-again
     returns)

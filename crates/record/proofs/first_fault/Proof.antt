@@ -24,37 +24,10 @@ Inv-records kind file n end₀ i₀ end i = scan kind file n end i ≡ scan kind
 abbrev μ-records : tie.MeasureT-records
 μ-records kind file n end₀ i₀ end i = n - i
 
-records-holds : tie.Need-records-holds Inv-loop μ-loop Inv-records μ-records
-records-holds c = refl
-
-read-requires : tie.Need-read-requires Inv-loop μ-loop Inv-records μ-records
-read-requires c κs = omega arith
-
-loop-holds : tie.Need-loop-holds Inv-loop μ-loop Inv-records μ-records
-loop-holds c = none-asked _ _ _
-
-meets-requires : tie.Need-meets-requires Inv-loop μ-loop Inv-records μ-records
-meets-requires c κs = search needs
-
-add-rule : tie.Need-add-rule Inv-loop μ-loop Inv-records μ-records
-add-rule c = omega arith
-
-loop-less : tie.Need-loop-less Inv-loop μ-loop Inv-records μ-records
-loop-less c = omega arith
-
 loop-again : tie.Need-loop-again Inv-loop μ-loop Inv-records μ-records
 loop-again c =
     let here = c .before .before .before .loop in
     one-more _ _ _ (here .rule) (omega arith) (here .inv) (sym (c .before .meets .ensures) ∙ not-false _ (c .if2 .left))
-
-end-requires : tie.Need-end-requires Inv-loop μ-loop Inv-records μ-records
-end-requires c κs = search needs
-
-add-i : tie.Need-add-i Inv-loop μ-loop Inv-records μ-records
-add-i c = omega arith
-
-records-less : tie.Need-records-less Inv-loop μ-loop Inv-records μ-records
-records-less c = omega arith
 
 records-again : tie.Need-records-again Inv-loop μ-loop Inv-records μ-records
 records-again c =
@@ -95,16 +68,16 @@ first-fault-spec =
     μ-loop
     Inv-records
     μ-records
-    records-holds
-    read-requires
-    loop-holds
-    meets-requires
-    add-rule
-    loop-less
+    (λ c. refl)  -- records-holds
+    (λ c κs. omega arith)  -- read-requires
+    (λ c. none-asked _ _ _)  -- loop-holds
+    (λ c κs. search needs)  -- meets-requires
+    (λ c. omega arith)  -- add-rule
+    (λ c. omega arith)  -- loop-less
     loop-again
-    end-requires
-    add-i
-    records-less
+    (λ c κs. search needs)  -- end-requires
+    (λ c. omega arith)  -- add-i
+    (λ c. omega arith)  -- records-less
     records-again
     returns
     returns-2)

@@ -7,42 +7,6 @@ use Rattle.rule.specs.Bytes.{bytes}
 use Rattle.record.proofs.put_word.Statement.{statement}
 use Rattle.record.proofs.put_word.Tie as tie
 
-low-requires : tie.Need-low-requires
-low-requires c κs = search needs
-
-slice-write-out : tie.Need-slice-write-out
-slice-write-out c = search needs
-
-low-requires-2 : tie.Need-low-requires-2
-low-requires-2 c κs = search needs
-
-add-out : tie.Need-add-out
-add-out c = search needs
-
-slice-write-out-2 : tie.Need-slice-write-out-2
-slice-write-out-2 c = simp length-set (omega arith)
-
-low-requires-3 : tie.Need-low-requires-3
-low-requires-3 c κs = search needs
-
-add-out-2 : tie.Need-add-out-2
-add-out-2 c = search needs
-
-slice-write-out-3 : tie.Need-slice-write-out-3
-slice-write-out-3 c = simp length-set (omega arith)
-
-low-requires-4 : tie.Need-low-requires-4
-low-requires-4 c κs = search needs
-
-add-out-3 : tie.Need-add-out-3
-add-out-3 c = search needs
-
-slice-write-out-4 : tie.Need-slice-write-out-4
-slice-write-out-4 c = simp length-set (omega arith)
-
-same-length : tie.Need-same-length
-same-length c = search needs
-
 returns : tie.Need-returns
 unfolding bytes
 returns c =
@@ -53,16 +17,16 @@ pub put-word-spec : {M : Type 1} → statement M
 put-word-spec =
     tie.close
     (tie.spec
-    low-requires
-    slice-write-out
-    low-requires-2
-    add-out
-    slice-write-out-2
-    low-requires-3
-    add-out-2
-    slice-write-out-3
-    low-requires-4
-    add-out-3
-    slice-write-out-4
-    same-length
+    (λ c κs. search needs)  -- low-requires
+    (λ c. search needs)  -- slice-write-out
+    (λ c κs. search needs)  -- low-requires-2
+    (λ c. search needs)  -- add-out
+    (λ c. simp length-set (omega arith))  -- slice-write-out-2
+    (λ c κs. search needs)  -- low-requires-3
+    (λ c. search needs)  -- add-out-2
+    (λ c. simp length-set (omega arith))  -- slice-write-out-3
+    (λ c κs. search needs)  -- low-requires-4
+    (λ c. search needs)  -- add-out-3
+    (λ c. simp length-set (omega arith))  -- slice-write-out-4
+    (λ c. search needs)  -- same-length
     returns)

@@ -19,24 +19,13 @@ less c =
     let h : c .before .args .x < 2 ^ 63 = omega (arith, c .before .fits .x) in
     rw (toZ-pos w64 h) (upper (c .before .args .x) (c .if1 .left) (c .before .fits .x))
 
-cast-result : tie.Need-cast-result
-cast-result c = search needs
-
-cast-result-2 : tie.Need-cast-result-2
-cast-result-2 c = search needs
-
-sub-result : tie.Need-sub-result
-sub-result c = rw (less c) (sfits-widen tt (reading-fits (c .before .fits .x)))
-
-cast-result-3 : tie.Need-cast-result-3
-cast-result-3 c = rw (less c) (narrows w64 tt (reading-fits (c .before .fits .x)))
-
-returns : tie.Need-returns
-returns c = sym (reading-is (c .before .args .x))
-
-returns-2 : tie.Need-returns-2
-returns-2 c = rw (less c) (narrowed w64 tt (reading-fits (c .before .fits .x)))
-
 pub reading-spec : {M : Type 1} → statement M
 reading-spec =
-    tie.close (tie.spec cast-result cast-result-2 sub-result cast-result-3 returns returns-2)
+    tie.close
+    (tie.spec
+    (λ c. search needs)  -- cast-result
+    (λ c. search needs)  -- cast-result-2
+    (λ c. rw (less c) (sfits-widen tt (reading-fits (c .before .fits .x))))  -- sub-result
+    (λ c. rw (less c) (narrows w64 tt (reading-fits (c .before .fits .x))))  -- cast-result-3
+    (λ c. sym (reading-is (c .before .args .x)))  -- returns
+    (λ c. rw (less c) (narrowed w64 tt (reading-fits (c .before .fits .x)))))  -- returns-2

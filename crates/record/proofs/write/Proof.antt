@@ -7,39 +7,6 @@ use Rattle.record.proofs.RoundTrip.{put-words}
 use Rattle.record.proofs.write.Statement.{statement}
 use Rattle.record.proofs.write.Tie as tie
 
-mul-from : tie.Need-mul-from
-mul-from c = search needs
-
-put-word-requires : tie.Need-put-word-requires
-put-word-requires c κs = search needs
-
-add-put-word : tie.Need-add-put-word
-add-put-word c = search needs
-
-put-word-requires-2 : tie.Need-put-word-requires-2
-put-word-requires-2 c κs = search needs
-
-add-put-word-2 : tie.Need-add-put-word-2
-add-put-word-2 c = search needs
-
-bits-requires : tie.Need-bits-requires
-bits-requires c κs = search needs
-
-put-word-requires-3 : tie.Need-put-word-requires-3
-put-word-requires-3 c κs = search needs
-
-add-put-word-3 : tie.Need-add-put-word-3
-add-put-word-3 c = search needs
-
-bits-requires-2 : tie.Need-bits-requires-2
-bits-requires-2 c κs = search needs
-
-put-word-requires-4 : tie.Need-put-word-requires-4
-put-word-requires-4 c κs = search needs
-
-same-length : tie.Need-same-length
-same-length c = search needs
-
 returns : tie.Need-returns
 returns c =
     let fourth = c .before .before in
@@ -64,15 +31,15 @@ pub write-spec : {M : Type 1} → statement M
 write-spec =
     tie.close
     (tie.spec
-    mul-from
-    put-word-requires
-    add-put-word
-    put-word-requires-2
-    add-put-word-2
-    bits-requires
-    put-word-requires-3
-    add-put-word-3
-    bits-requires-2
-    put-word-requires-4
-    same-length
+    (λ c. search needs)  -- mul-from
+    (λ c κs. search needs)  -- put-word-requires
+    (λ c. search needs)  -- add-put-word
+    (λ c κs. search needs)  -- put-word-requires-2
+    (λ c. search needs)  -- add-put-word-2
+    (λ c κs. search needs)  -- bits-requires
+    (λ c κs. search needs)  -- put-word-requires-3
+    (λ c. search needs)  -- add-put-word-3
+    (λ c κs. search needs)  -- bits-requires-2
+    (λ c κs. search needs)  -- put-word-requires-4
+    (λ c. search needs)  -- same-length
     returns)

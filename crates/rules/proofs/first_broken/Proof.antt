@@ -29,36 +29,21 @@ past-4 : (c : tie.Else4) → Past 4 (c .before .before .before .before .before .
 unfolding firstFalse meets rules
 past-4 c = past-3 (c .before .before) ∙ rw (flipped (c .before .meets4 .ensures) (c .if4 .left))
 
-meets-requires : tie.Need-meets-requires
-meets-requires c κs = search needs
-
 returns : tie.Need-returns
 unfolding broken firstFalse meets rules
 returns c = rw (flipped (c .before .meets .ensures) (c .if1 .taken))
-
-meets-requires-2 : tie.Need-meets-requires-2
-meets-requires-2 c κs = search needs
 
 returns-2 : tie.Need-returns-2
 unfolding firstFalse meets rules
 returns-2 c = sym (past-1 (c .before .before) ∙ rw (flipped (c .before .meets2 .ensures) (c .if2 .taken)))
 
-meets-requires-3 : tie.Need-meets-requires-3
-meets-requires-3 c κs = search needs
-
 returns-3 : tie.Need-returns-3
 unfolding firstFalse meets rules
 returns-3 c = sym (past-2 (c .before .before) ∙ rw (flipped (c .before .meets3 .ensures) (c .if3 .taken)))
 
-meets-requires-4 : tie.Need-meets-requires-4
-meets-requires-4 c κs = search needs
-
 returns-4 : tie.Need-returns-4
 unfolding firstFalse meets rules
 returns-4 c = sym (past-3 (c .before .before) ∙ rw (flipped (c .before .meets4 .ensures) (c .if4 .taken)))
-
-meets-requires-5 : tie.Need-meets-requires-5
-meets-requires-5 c κs = search needs
 
 returns-5 : tie.Need-returns-5
 unfolding firstFalse meets rules
@@ -72,14 +57,14 @@ pub first-broken-spec : {M : Type 1} → statement M
 first-broken-spec =
     tie.close
     (tie.spec
-    meets-requires
+    (λ c κs. search needs)  -- meets-requires
     returns
-    meets-requires-2
+    (λ c κs. search needs)  -- meets-requires-2
     returns-2
-    meets-requires-3
+    (λ c κs. search needs)  -- meets-requires-3
     returns-3
-    meets-requires-4
+    (λ c κs. search needs)  -- meets-requires-4
     returns-4
-    meets-requires-5
+    (λ c κs. search needs)  -- meets-requires-5
     returns-5
     returns-6)

@@ -4,18 +4,6 @@ use borrow.Author.Needs.{needs}
 use Rattle.rules.proofs.follows.Statement.{statement}
 use Rattle.rules.proofs.follows.Tie as tie
 
-enum-told : tie.Need-enum-told
-enum-told c = search needs
-
-cast-result : tie.Need-cast-result
-cast-result c = search needs
-
-enum-told-2 : tie.Need-enum-told-2
-enum-told-2 c = search needs
-
-cast-result-2 : tie.Need-cast-result-2
-cast-result-2 c = search needs
-
 returns : tie.Need-returns
 unfolding follows
 returns c = rw (c .before .enum-told .given .1)
@@ -26,4 +14,11 @@ returns-2 c = rw (c .before .enum-told2 .given .1)
 
 pub follows-spec : {M : Type 1} → statement M
 follows-spec =
-    tie.close (tie.spec enum-told cast-result enum-told-2 cast-result-2 returns returns-2)
+    tie.close
+    (tie.spec
+    (λ c. search needs)  -- enum-told
+    (λ c. search needs)  -- cast-result
+    (λ c. search needs)  -- enum-told-2
+    (λ c. search needs)  -- cast-result-2
+    returns
+    returns-2)

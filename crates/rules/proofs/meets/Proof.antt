@@ -10,12 +10,6 @@ use Rattle.rules.proofs.Numbered.{no-other}
 use Rattle.rules.proofs.meets.Statement.{statement}
 use Rattle.rules.proofs.meets.Tie as tie
 
-end-requires : tie.Need-end-requires
-end-requires c κs = search needs
-
-follows-requires : tie.Need-follows-requires
-follows-requires c κs = search needs
-
 returns : tie.Need-returns
 unfolding meets rules
 returns c = rw (c .before .match .keys1)
@@ -57,8 +51,8 @@ pub meets-spec : {M : Type 1} → statement M
 meets-spec =
     tie.close
     (tie.spec
-    end-requires
-    follows-requires
+    (λ c κs. search needs)  -- end-requires
+    (λ c κs. search needs)  -- follows-requires
     returns
     returns-2
     returns-3

@@ -43,21 +43,12 @@ returns : tie.Need-returns
 unfolding fileVerdict inspection checked
 returns c = rw (ne-eqb _ 0 (c .if1 .taken))
 
-first-fault-requires : tie.Need-first-fault-requires
-first-fault-requires c κs = search needs
-
 returns-2 : tie.Need-returns-2
 unfolding fileVerdict inspection checked ruled
 returns-2 c =
     let a = c .before .before .before .before .args in
     let bad = file-refused (length (a .file .now) / recordWidth) (firstFault (a .s .kind) 0 0 (recordsOf (a .file .now))) (omega (arith, c .before .first-fault .ensures)) in
     rw (even-here (c .before .before), bad .0, bad .1, ← c .before .first-fault .ensures)
-
-counts-requires : tie.Need-counts-requires
-counts-requires c κs = whole-readings _ _ (whole-here c)
-
-runs-allowed-requires : tie.Need-runs-allowed-requires
-runs-allowed-requires c κs = search needs
 
 returns-3 : tie.Need-returns-3
 unfolding fileVerdict inspection checked
@@ -101,10 +92,10 @@ inspect-spec =
     tie.close
     (tie.spec
     returns
-    first-fault-requires
+    (λ c κs. search needs)  -- first-fault-requires
     returns-2
-    counts-requires
-    runs-allowed-requires
+    (λ c κs. whole-readings _ _ (whole-here c))  -- counts-requires
+    (λ c κs. search needs)  -- runs-allowed-requires
     returns-3
     limit-requires
     returns-4

@@ -42,35 +42,11 @@ few c =
     let a = c .before .before .before .before .before .before .before .before .before .before .args in
     omega (arith, loads-needed (kept (a .named)) (a .file .now) (loads c .0), length-file (a .file .now), granted (c .before .before .before .before) .1)
 
-kept-requires : tie.Need-kept-requires
-kept-requires c κs = search needs
-
-admit-requires : tie.Need-admit-requires
-admit-requires c κs = search needs
-
-enum-known-r : tie.Need-enum-known-r
-enum-known-r c = search needs
-
-enum-known-needed : tie.Need-enum-known-needed
-enum-known-needed c = search needs
-
 inspect-requires : tie.Need-inspect-requires
 inspect-requires c κs = let g = granted (c .before) .0 in rw (c .before .before .before .before .before .kept .ensures) (g .steps, g .gaps)
 
-enum-known-r-2 : tie.Need-enum-known-r-2
-enum-known-r-2 c = search needs
-
-enum-known-c : tie.Need-enum-known-c
-enum-known-c c = search needs
-
 load-slots-requires : tie.Need-load-slots-requires
 load-slots-requires c κs = let g = granted (c .before .before .before .before .before .before) in (omega arith, omega (arith, few (c .before .before), g .1, g .0 .long))
-
-mul-clear : tie.Need-mul-clear
-mul-clear c = search needs
-
-mul-clear-2 : tie.Need-mul-clear-2
-mul-clear-2 c = omega (arith, small (c .before .before .before .before .before .before .before .before .before))
 
 clear-requires : tie.Need-clear-requires
 clear-requires c κs =
@@ -79,17 +55,11 @@ clear-requires c κs =
     let same = loaded-length (a .file .now) (a .room .now) (length (a .file .now) / recordWidth) (c .before .before .load-slots .last .1 .1 .0) (omega (arith, few (c .before .before .before .before .before), g .1, g .0 .long)) (c .before .before .load-slots .ensures) in
     (omega (arith, few (c .before .before .before .before .before)), omega (arith, same, g .1, g .0 .long))
 
-same-length : tie.Need-same-length
-same-length c = search needs
-
 returns : tie.Need-returns
 unfolding traced answer
 returns c =
     let a = c .before .before .before .before .before .before .before .args in
     rw (admit-refuses (kept (a .named)) (a .room .now) (c .before .r .given .0 .0) (rw (c .before .before .before .before .before .kept .ensures) at (sym (c .before .before .before .admit .ensures) ∙ c .before .r .given .1)) (fileVerdict (kept (a .named)) (a .file .now)))
-
-same-length-2 : tie.Need-same-length-2
-same-length-2 c = search needs
 
 returns-2 : tie.Need-returns-2
 unfolding traced answer
@@ -99,9 +69,6 @@ returns-2 c =
       admits (kept (a .named)) (a .room .now) (granted (c .before .before .before .before .before) .0) (fileVerdict (kept (a .named)) (a .file .now)),
       inspect-refuses (fileVerdict (kept (a .named)) (a .file .now)) (c .before .r2 .given .0 .0) (rw (c .before .before .before .before .before .before .before .before .before .kept .ensures) at (sym (c .before .before .before .inspect .ensures) ∙ c .before .r2 .given .1)),
     )
-
-same-length-3 : tie.Need-same-length-3
-same-length-3 c = search needs
 
 returns-3 : tie.Need-returns-3
 unfolding traced answer recordsOf
@@ -119,20 +86,20 @@ pub load-spec : {M : Type 1} → statement M
 load-spec =
     tie.close
     (tie.spec
-    kept-requires
-    admit-requires
-    enum-known-r
-    enum-known-needed
+    (λ c κs. search needs)  -- kept-requires
+    (λ c κs. search needs)  -- admit-requires
+    (λ c. search needs)  -- enum-known-r
+    (λ c. search needs)  -- enum-known-needed
     inspect-requires
-    enum-known-r-2
-    enum-known-c
+    (λ c. search needs)  -- enum-known-r-2
+    (λ c. search needs)  -- enum-known-c
     load-slots-requires
-    mul-clear
-    mul-clear-2
+    (λ c. search needs)  -- mul-clear
+    (λ c. omega (arith, small (c .before .before .before .before .before .before .before .before .before)))  -- mul-clear-2
     clear-requires
-    same-length
+    (λ c. search needs)  -- same-length
     returns
-    same-length-2
+    (λ c. search needs)  -- same-length-2
     returns-2
-    same-length-3
+    (λ c. search needs)  -- same-length-3
     returns-3)

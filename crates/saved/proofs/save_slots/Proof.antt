@@ -20,20 +20,11 @@ loop-holds : tie.Need-loop-holds Inv-loop μ-loop
 unfolding saved slots
 loop-holds c = (omega arith, refl)
 
-read-requires : tie.Need-read-requires Inv-loop μ-loop
-read-requires c κs = filled (c .before .before .before .before .pre .0) (c .before .before .loop .i) (omega arith)
-
 write-requires : tie.Need-write-requires Inv-loop μ-loop
 write-requires c κs =
     let a = c .before .before .before .before .before .args in
     let loop = c .before .before .before .loop in
     omega (arith, saved-length (a .room .now) (a .out .now) (loop .i) (loop .out) (omega arith) (loop .inv .1))
-
-add-i : tie.Need-add-i Inv-loop μ-loop
-add-i c = omega arith
-
-loop-less : tie.Need-loop-less Inv-loop μ-loop
-loop-less c = omega arith
 
 loop-again : tie.Need-loop-again Inv-loop μ-loop
 loop-again c =
@@ -60,10 +51,10 @@ save-slots-spec =
     Inv-loop
     μ-loop
     loop-holds
-    read-requires
+    (λ c κs. filled (c .before .before .before .before .pre .0) (c .before .before .loop .i) (omega arith))  -- read-requires
     write-requires
-    add-i
-    loop-less
+    (λ c. omega arith)  -- add-i
+    (λ c. omega arith)  -- loop-less
     loop-again
     same-length
     returns)

@@ -25,25 +25,13 @@ gaps-here c = flipped (c .before .gaps-good .ensures) (c .if2 .left)
 small : (c : tie.Else2) → needed (c .before .before .before .before .args .s) ≤ mostNeeded
 small c = needed-small (c .before .before .before .before .args .s) (steps-here (c .before .before)) (gaps-here c)
 
-steps-good-requires : tie.Need-steps-good-requires
-steps-good-requires c κs = search needs
-
 returns : tie.Need-returns
 unfolding admitted admission checked
 returns c = rw (flipped (c .before .steps-good .ensures) (c .if1 .taken))
 
-gaps-good-requires : tie.Need-gaps-good-requires
-gaps-good-requires c κs = search needs
-
 returns-2 : tie.Need-returns-2
 unfolding admitted admission checked
 returns-2 c = rw (steps-here (c .before .before), flipped (c .before .gaps-good .ensures) (c .if2 .taken))
-
-needed-requires : tie.Need-needed-requires
-needed-requires c κs = omega (arith, small c)
-
-mul-if3 : tie.Need-mul-if3
-mul-if3 c = omega (arith, small (c .before), c .needed .ensures)
 
 returns-3 : tie.Need-returns-3
 unfolding admitted admission checked roomy
@@ -68,11 +56,11 @@ pub admit-spec : {M : Type 1} → statement M
 admit-spec =
     tie.close
     (tie.spec
-    steps-good-requires
+    (λ c κs. search needs)  -- steps-good-requires
     returns
-    gaps-good-requires
+    (λ c κs. search needs)  -- gaps-good-requires
     returns-2
-    needed-requires
-    mul-if3
+    (λ c κs. omega (arith, small c))  -- needed-requires
+    (λ c. omega (arith, small (c .before), c .needed .ensures))  -- mul-if3
     returns-3
     returns-4)

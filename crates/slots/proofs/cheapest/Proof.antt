@@ -14,30 +14,6 @@ Inv-loop room used place₀ cost₀ i₀ place cost i = Scored room used place c
 abbrev μ-loop : tie.MeasureT-loop
 μ-loop room used place₀ cost₀ i₀ place cost i = used - i
 
-loop-holds : tie.Need-loop-holds Inv-loop μ-loop
-loop-holds c = scored-start (c .args .room .now) (c .args .used)
-
-add-loop : tie.Need-add-loop Inv-loop μ-loop
-add-loop c = omega arith
-
-read-requires : tie.Need-read-requires Inv-loop μ-loop
-read-requires c κs = filled (c .before .before .pre) (c .before .loop .i) (omega arith)
-
-add-read : tie.Need-add-read Inv-loop μ-loop
-add-read c = omega arith
-
-read-requires-2 : tie.Need-read-requires-2 Inv-loop μ-loop
-read-requires-2 c κs = filled (c .before .before .before .pre) (c .before .before .loop .i + 1) (omega arith)
-
-price-requires : tie.Need-price-requires Inv-loop μ-loop
-price-requires c κs = search needs
-
-add-i : tie.Need-add-i Inv-loop μ-loop
-add-i c = omega arith
-
-loop-less : tie.Need-loop-less Inv-loop μ-loop
-loop-less c = omega arith
-
 loop-again : tie.Need-loop-again Inv-loop μ-loop
 loop-again c =
     let turn = c .before .before .before .before in
@@ -57,13 +33,13 @@ cheapest-spec =
     (tie.spec
     Inv-loop
     μ-loop
-    loop-holds
-    add-loop
-    read-requires
-    add-read
-    read-requires-2
-    price-requires
-    add-i
-    loop-less
+    (λ c. scored-start (c .args .room .now) (c .args .used))  -- loop-holds
+    (λ c. omega arith)  -- add-loop
+    (λ c κs. filled (c .before .before .pre) (c .before .loop .i) (omega arith))  -- read-requires
+    (λ c. omega arith)  -- add-read
+    (λ c κs. filled (c .before .before .before .pre) (c .before .before .loop .i + 1) (omega arith))  -- read-requires-2
+    (λ c κs. search needs)  -- price-requires
+    (λ c. omega arith)  -- add-i
+    (λ c. omega arith)  -- loop-less
     loop-again
     returns)

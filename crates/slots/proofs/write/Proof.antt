@@ -11,56 +11,11 @@ use Rattle.slots.proofs.Reading.{stored}
 use Rattle.slots.proofs.write.Statement.{statement}
 use Rattle.slots.proofs.write.Tie as tie
 
-mul-from : tie.Need-mul-from
-mul-from c = search needs
-
-cast-start : tie.Need-cast-start
-cast-start c = search needs
-
-cast-count : tie.Need-cast-count
-cast-count c = search needs
-
 cast-least : tie.Need-cast-least
 cast-least c = widens {w = w32} w64 {z = c .before .before .before .before .args .b .least} tt (sfits-of (c .struct-told .given .1 .1 .0 .1))
 
 cast-largest : tie.Need-cast-largest
 cast-largest c = widens {w = w32} w64 {z = c .before .before .before .before .before .before .args .b .largest} tt (sfits-of (c .struct-told2 .given .1 .1 .1 .0 .1))
-
-mul-start : tie.Need-mul-start
-mul-start c = search needs
-
-slice-set-from-start : tie.Need-slice-set-from-start
-slice-set-from-start c = search needs
-
-add-count : tie.Need-add-count
-add-count c = search needs
-
-mul-count : tie.Need-mul-count
-mul-count c = search needs
-
-slice-set-from-count : tie.Need-slice-set-from-count
-slice-set-from-count c = simp length-set (omega arith)
-
-add-least : tie.Need-add-least
-add-least c = search needs
-
-mul-least : tie.Need-mul-least
-mul-least c = search needs
-
-slice-set-from-least : tie.Need-slice-set-from-least
-slice-set-from-least c = simp length-set (omega arith)
-
-add-largest : tie.Need-add-largest
-add-largest c = search needs
-
-mul-largest : tie.Need-mul-largest
-mul-largest c = search needs
-
-slice-set-from-largest : tie.Need-slice-set-from-largest
-slice-set-from-largest c = simp length-set (omega arith)
-
-same-length : tie.Need-same-length
-same-length c = search needs
 
 returns : tie.Need-returns
 returns c =
@@ -78,21 +33,21 @@ pub write-spec : {M : Type 1} → statement M
 write-spec =
     tie.close
     (tie.spec
-    mul-from
-    cast-start
-    cast-count
+    (λ c. search needs)  -- mul-from
+    (λ c. search needs)  -- cast-start
+    (λ c. search needs)  -- cast-count
     cast-least
     cast-largest
-    mul-start
-    slice-set-from-start
-    add-count
-    mul-count
-    slice-set-from-count
-    add-least
-    mul-least
-    slice-set-from-least
-    add-largest
-    mul-largest
-    slice-set-from-largest
-    same-length
+    (λ c. search needs)  -- mul-start
+    (λ c. search needs)  -- slice-set-from-start
+    (λ c. search needs)  -- add-count
+    (λ c. search needs)  -- mul-count
+    (λ c. simp length-set (omega arith))  -- slice-set-from-count
+    (λ c. search needs)  -- add-least
+    (λ c. search needs)  -- mul-least
+    (λ c. simp length-set (omega arith))  -- slice-set-from-least
+    (λ c. search needs)  -- add-largest
+    (λ c. search needs)  -- mul-largest
+    (λ c. simp length-set (omega arith))  -- slice-set-from-largest
+    (λ c. search needs)  -- same-length
     returns)

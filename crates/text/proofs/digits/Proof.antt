@@ -49,15 +49,6 @@ returns-2 c =
     let l = length (now (c .before .before .before .args .s)) in
     rw (le-leb 1 l (omega arith), lt-leb l 10 (omega arith))
 
-loop-holds : tie.Need-loop-holds Inv-loop μ-loop
-loop-holds c = (omega arith, (omega arith, refl))
-
-shared-slice-read-b : tie.Need-shared-slice-read-b Inv-loop μ-loop
-shared-slice-read-b c = omega arith
-
-is-digit-requires : tie.Need-is-digit-requires Inv-loop μ-loop
-is-digit-requires c κs = search needs
-
 returns-3 : tie.Need-returns-3 Inv-loop μ-loop
 returns-3 c =
     let start = c .before .before .before .before .before .before .before .before in
@@ -65,24 +56,6 @@ returns-3 c =
     let loop = c .before .before .before .before .loop in
     let wrong = sym (c .before .is-digit .ensures) ∙ not-true _ (c .if3 .taken) in
     in-length s _ (omega arith) (omega arith) (sym (digits-stop s (loop .i) (loop .n) (omega arith) wrong) ∙ loop .inv .1 .1)
-
-mul-n : tie.Need-mul-n Inv-loop μ-loop
-mul-n c = omega (arith, few c)
-
-sub-n : tie.Need-sub-n Inv-loop μ-loop
-sub-n c = omega (arith, a-digit c)
-
-cast-n : tie.Need-cast-n Inv-loop μ-loop
-cast-n c = omega (arith, a-digit c)
-
-add-n : tie.Need-add-n Inv-loop μ-loop
-add-n c = omega (arith, few c, a-digit c)
-
-add-i : tie.Need-add-i Inv-loop μ-loop
-add-i c = omega arith
-
-loop-less : tie.Need-loop-less Inv-loop μ-loop
-loop-less c = omega arith
 
 loop-again : tie.Need-loop-again Inv-loop μ-loop
 loop-again c =
@@ -114,16 +87,16 @@ digits-spec =
     μ-loop
     returns
     returns-2
-    loop-holds
-    shared-slice-read-b
-    is-digit-requires
+    (λ c. (omega arith, (omega arith, refl)))  -- loop-holds
+    (λ c. omega arith)  -- shared-slice-read-b
+    (λ c κs. search needs)  -- is-digit-requires
     returns-3
-    mul-n
-    sub-n
-    cast-n
-    add-n
-    add-i
-    loop-less
+    (λ c. omega (arith, few c))  -- mul-n
+    (λ c. omega (arith, a-digit c))  -- sub-n
+    (λ c. omega (arith, a-digit c))  -- cast-n
+    (λ c. omega (arith, few c, a-digit c))  -- add-n
+    (λ c. omega arith)  -- add-i
+    (λ c. omega arith)  -- loop-less
     loop-again
     cast-t14
     returns-4)

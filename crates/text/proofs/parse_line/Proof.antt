@@ -17,18 +17,6 @@ returns : tie.Need-returns
 unfolding lineOf
 returns c = rw (lt-ltb lineMost (length (now (c .before .before .args .line))) (omega (arith, c .if1 .taken)))
 
-first-space-requires : tie.Need-first-space-requires
-first-space-requires c κs = search needs
-
-read-number-requires : tie.Need-read-number-requires
-read-number-requires c κs = search needs
-
-signed-field-requires : tie.Need-signed-field-requires
-signed-field-requires c κs = search needs
-
-alone-requires : tie.Need-alone-requires
-alone-requires c κs = search needs
-
 returns-2 : tie.Need-returns-2
 unfolding lineOf
 returns-2 c =
@@ -40,30 +28,6 @@ returns-2 c =
       le-ltb lineMost (length l) (omega (arith, c .before .before .before .before .before .if1 .left)),
       eq-eqb (firstSpace l) (length l) (sym (c .before .before .before .before .first-space .ensures) ∙ c .before .before .before .if2 .taken),
     )
-
-sub-spaced : tie.Need-sub-spaced
-sub-spaced c = search needs
-
-part-spaced-start : tie.Need-part-spaced-start
-part-spaced-start c = search needs
-
-part-spaced-end : tie.Need-part-spaced-end
-part-spaced-end c = omega (arith, space-within (now (c .before .before .before .before .args .line)))
-
-add-spaced : tie.Need-add-spaced
-add-spaced c = omega (arith, space-within (now (c .before .before .before .before .before .args .line)))
-
-sub-spaced-2 : tie.Need-sub-spaced-2
-sub-spaced-2 c = omega (arith, space-within (now (c .before .before .before .before .before .args .line)))
-
-part-spaced-start-2 : tie.Need-part-spaced-start-2
-part-spaced-start-2 c = omega (arith, space-within (now (c .before .before .before .before .before .args .line)))
-
-part-spaced-end-2 : tie.Need-part-spaced-end-2
-part-spaced-end-2 c = search needs
-
-spaced-requires : tie.Need-spaced-requires
-spaced-requires c κs = search needs
 
 returns-3 : tie.Need-returns-3
 unfolding lineOf
@@ -85,17 +49,17 @@ parse-line-spec =
     tie.close
     (tie.spec
     returns
-    first-space-requires
-    read-number-requires
-    signed-field-requires
-    alone-requires
+    (λ c κs. search needs)  -- first-space-requires
+    (λ c κs. search needs)  -- read-number-requires
+    (λ c κs. search needs)  -- signed-field-requires
+    (λ c κs. search needs)  -- alone-requires
     returns-2
-    sub-spaced
-    part-spaced-start
-    part-spaced-end
-    add-spaced
-    sub-spaced-2
-    part-spaced-start-2
-    part-spaced-end-2
-    spaced-requires
+    (λ c. search needs)  -- sub-spaced
+    (λ c. search needs)  -- part-spaced-start
+    (λ c. omega (arith, space-within (now (c .before .before .before .before .args .line))))  -- part-spaced-end
+    (λ c. omega (arith, space-within (now (c .before .before .before .before .before .args .line))))  -- add-spaced
+    (λ c. omega (arith, space-within (now (c .before .before .before .before .before .args .line))))  -- sub-spaced-2
+    (λ c. omega (arith, space-within (now (c .before .before .before .before .before .args .line))))  -- part-spaced-start-2
+    (λ c. search needs)  -- part-spaced-end-2
+    (λ c κs. search needs)  -- spaced-requires
     returns-3)

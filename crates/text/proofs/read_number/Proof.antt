@@ -28,35 +28,8 @@ negative-fits c =
     let fits : SFits w64 z = sfits-of (c .known-told .given .0 .1) in
     omega (whole, digits-positive _ z (size-is c), difference (pos 0) z, one-side (pos 0 -ℤ z))
 
-returns : tie.Need-returns
-returns c = sym (number-none (now (c .before .before .args .s)) (c .if1 .taken))
-
-shared-slice-read-if2 : tie.Need-shared-slice-read-if2
-shared-slice-read-if2 c = search needs
-
-digits-requires : tie.Need-digits-requires
-digits-requires c κs = search needs
-
 returns-2 : tie.Need-returns-2
 returns-2 c = c .digits .ensures ∙ sym (number-plain (now (c .before .before .before .before .before .args .s)) (c .before .if2 .taken))
-
-sub-digits : tie.Need-sub-digits
-sub-digits c = search needs
-
-part-digits-start : tie.Need-part-digits-start
-part-digits-start c = search needs
-
-part-digits-end : tie.Need-part-digits-end
-part-digits-end c = search needs
-
-digits-requires-2 : tie.Need-digits-requires-2
-digits-requires-2 c κs = search needs
-
-enum-known-size : tie.Need-enum-known-size
-enum-known-size c = search needs
-
-enum-told : tie.Need-enum-told
-enum-told c = search needs
 
 returns-3 : tie.Need-returns-3
 unfolding negated
@@ -64,9 +37,6 @@ returns-3 c =
     let s = now (c .before .before .before .before .before .before .before .before .args .s) in
     let e : digits (drop 1 s) ≡ Number.Unreadable = sym (behind (c .before .before)) ∙ c .enum-told .given .1 in
     rw (number-minus s (c .before .before .before .before .if2 .left), e)
-
-sub-t11 : tie.Need-sub-t11
-sub-t11 c = rw (read w64 (c .before .size .given .0 .0) (c .known-told .given .0 .1)) (negative-fits c)
 
 returns-4 : tie.Need-returns-4
 unfolding negated
@@ -80,16 +50,16 @@ pub read-number-spec : {M : Type 1} → statement M
 read-number-spec =
     tie.close
     (tie.spec
-    returns
-    shared-slice-read-if2
-    digits-requires
+    (λ c. sym (number-none (now (c .before .before .args .s)) (c .if1 .taken)))  -- returns
+    (λ c. search needs)  -- shared-slice-read-if2
+    (λ c κs. search needs)  -- digits-requires
     returns-2
-    sub-digits
-    part-digits-start
-    part-digits-end
-    digits-requires-2
-    enum-known-size
-    enum-told
+    (λ c. search needs)  -- sub-digits
+    (λ c. search needs)  -- part-digits-start
+    (λ c. search needs)  -- part-digits-end
+    (λ c κs. search needs)  -- digits-requires-2
+    (λ c. search needs)  -- enum-known-size
+    (λ c. search needs)  -- enum-told
     returns-3
-    sub-t11
+    (λ c. rw (read w64 (c .before .size .given .0 .0) (c .known-told .given .0 .1)) (negative-fits c))  -- sub-t11
     returns-4)

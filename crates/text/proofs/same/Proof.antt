@@ -15,29 +15,11 @@ Inv-loop a b i₀ i = (i ≤ length a) × (same (drop i a) (drop i b) ≡ same a
 abbrev μ-loop : tie.MeasureT-loop
 μ-loop a b i₀ i = length a - i
 
-returns : tie.Need-returns Inv-loop μ-loop
-returns c = sym (same-lengths (now (c .before .args .a)) (now (c .before .args .b)) (c .if1 .taken))
-
-loop-holds : tie.Need-loop-holds Inv-loop μ-loop
-loop-holds c = (omega arith, refl)
-
-shared-slice-read-if2 : tie.Need-shared-slice-read-if2 Inv-loop μ-loop
-shared-slice-read-if2 c = omega arith
-
-shared-slice-read-if2-2 : tie.Need-shared-slice-read-if2-2 Inv-loop μ-loop
-shared-slice-read-if2-2 c = omega arith
-
 returns-2 : tie.Need-returns-2 Inv-loop μ-loop
 returns-2 c =
     let start = c .before .before .before .before .before .before in
     let loop = c .before .before .before .before .loop in
     sym (same-stop (now (start .args .a)) (now (start .args .b)) (loop .i) (omega arith) (omega arith) (c .if2 .taken)) ∙ loop .inv .1
-
-add-i : tie.Need-add-i Inv-loop μ-loop
-add-i c = omega arith
-
-loop-less : tie.Need-loop-less Inv-loop μ-loop
-loop-less c = omega arith
 
 loop-again : tie.Need-loop-again Inv-loop μ-loop
 loop-again c =
@@ -56,12 +38,12 @@ same-spec =
     (tie.spec
     Inv-loop
     μ-loop
-    returns
-    loop-holds
-    shared-slice-read-if2
-    shared-slice-read-if2-2
+    (λ c. sym (same-lengths (now (c .before .args .a)) (now (c .before .args .b)) (c .if1 .taken)))  -- returns
+    (λ c. (omega arith, refl))  -- loop-holds
+    (λ c. omega arith)  -- shared-slice-read-if2
+    (λ c. omega arith)  -- shared-slice-read-if2-2
     returns-2
-    add-i
-    loop-less
+    (λ c. omega arith)  -- add-i
+    (λ c. omega arith)  -- loop-less
     loop-again
     returns-3)

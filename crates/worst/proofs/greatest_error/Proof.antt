@@ -17,21 +17,6 @@ Inv-loop room used most₀ i₀ most i = Found room used most i
 abbrev μ-loop : tie.MeasureT-loop
 μ-loop room used most₀ i₀ most i = used - i
 
-loop-holds : tie.Need-loop-holds Inv-loop μ-loop
-loop-holds c = found-start (c .args .room .now) (c .args .used)
-
-read-requires : tie.Need-read-requires Inv-loop μ-loop
-read-requires c κs = filled (c .before .before .pre) (c .before .loop .i) (omega arith)
-
-error-requires : tie.Need-error-requires Inv-loop μ-loop
-error-requires c κs = search needs
-
-add-i : tie.Need-add-i Inv-loop μ-loop
-add-i c = omega arith
-
-loop-less : tie.Need-loop-less Inv-loop μ-loop
-loop-less c = omega arith
-
 loop-again : tie.Need-loop-again Inv-loop μ-loop
 loop-again c =
     let turn = c .before .before .before in
@@ -51,10 +36,10 @@ greatest-error-spec =
     (tie.spec
     Inv-loop
     μ-loop
-    loop-holds
-    read-requires
-    error-requires
-    add-i
-    loop-less
+    (λ c. found-start (c .args .room .now) (c .args .used))  -- loop-holds
+    (λ c κs. filled (c .before .before .pre) (c .before .loop .i) (omega arith))  -- read-requires
+    (λ c κs. search needs)  -- error-requires
+    (λ c. omega arith)  -- add-i
+    (λ c. omega arith)  -- loop-less
     loop-again
     returns)

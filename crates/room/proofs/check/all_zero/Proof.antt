@@ -20,15 +20,6 @@ Inv-loop room from to i₀ i = (i ≤ to) × (allZero (take (to - from) (drop fr
 abbrev μ-loop : tie.MeasureT-loop
 μ-loop room from to i₀ i = to - i
 
-loop-holds : tie.Need-loop-holds Inv-loop μ-loop
-loop-holds c = (c .pre .0, refl)
-
-mul-if1 : tie.Need-mul-if1 Inv-loop μ-loop
-mul-if1 c = search needs
-
-shared-slice-copy-out-if1 : tie.Need-shared-slice-copy-out-if1 Inv-loop μ-loop
-shared-slice-copy-out-if1 c = omega (arith, c .before .before .pre .1)
-
 returns : tie.Need-returns Inv-loop μ-loop
 returns c =
     let a = c .before .before .before .before .args in
@@ -38,12 +29,6 @@ returns c =
       zeros-next (a .room .now) i (a .to) (c .before .before .loop-test .taken) (c .before .before .before .before .pre .1),
       equal-other (getD (a .room .now) i (pos 0)) (pos 0) (λ e. c .if1 .taken (ap (ofZ w64) e)),
     )
-
-add-i : tie.Need-add-i Inv-loop μ-loop
-add-i c = omega arith
-
-loop-less : tie.Need-loop-less Inv-loop μ-loop
-loop-less c = omega arith
 
 loop-again : tie.Need-loop-again Inv-loop μ-loop
 loop-again c =
@@ -61,11 +46,11 @@ all-zero-spec =
     (tie.spec
     Inv-loop
     μ-loop
-    loop-holds
-    mul-if1
-    shared-slice-copy-out-if1
+    (λ c. (c .pre .0, refl))  -- loop-holds
+    (λ c. search needs)  -- mul-if1
+    (λ c. omega (arith, c .before .before .pre .1))  -- shared-slice-copy-out-if1
     returns
-    add-i
-    loop-less
+    (λ c. omega arith)  -- add-i
+    (λ c. omega arith)  -- loop-less
     loop-again
     returns-2)

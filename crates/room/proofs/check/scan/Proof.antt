@@ -16,25 +16,13 @@ Inv-loop kind used told-runs told-readings room runs₀ readings₀ end₀ i₀ 
 abbrev μ-loop : tie.MeasureT-loop
 μ-loop kind used told-runs told-readings room runs₀ readings₀ end₀ i₀ runs readings end i = used - i
 
-first-run-requires : tie.Need-first-run-requires Inv-loop μ-loop
-first-run-requires c κs = c .pre .0
-
 loop-holds : tie.Need-loop-holds Inv-loop μ-loop
 loop-holds c =
     let a = c .before .args in
     scan-starts (a .kind) (a .told-runs) (a .told-readings) (a .room .now) (a .used) (c .first-run .result) (c .first-run .ensures .0) (c .first-run .ensures .1)
 
-slot-ranged-requires : tie.Need-slot-ranged-requires Inv-loop μ-loop
-slot-ranged-requires c κs = omega arith
-
 returns : tie.Need-returns Inv-loop μ-loop
 returns c = sym (scan-fails (c .before .before .before .loop .inv) (c .before .before .loop-test .taken) (flipped (c .before .slot-ranged .ensures) (c .if1 .taken)))
-
-read-requires : tie.Need-read-requires Inv-loop μ-loop
-read-requires c κs = (omega arith, flipped (c .before .slot-ranged .ensures) (c .if1 .left))
-
-first-broken-requires : tie.Need-first-broken-requires Inv-loop μ-loop
-first-broken-requires c κs = tt
 
 returns-2 : tie.Need-returns-2 Inv-loop μ-loop
 returns-2 c =
@@ -42,26 +30,8 @@ returns-2 c =
     let turn = read .before .before .before in
     sym (scan-breaks (turn .before .loop .inv) (turn .loop-test .taken) _ (read .read .ensures) (ne-eqb _ 0 (λ none. c .if2 .taken (c .before .first-broken .ensures ∙ none))))
 
-starts-run-requires : tie.Need-starts-run-requires Inv-loop μ-loop
-starts-run-requires c κs = tt
-
 add-runs : tie.Need-add-runs Inv-loop μ-loop
 add-runs c = omega (arith, at-most-one (c .before .before .before .before .before .before .before .loop .end) (c .before .before .before .read .result .start))
-
-cast-readings : tie.Need-cast-readings Inv-loop μ-loop
-cast-readings c = search needs
-
-add-readings : tie.Need-add-readings Inv-loop μ-loop
-add-readings c = omega arith
-
-end-requires : tie.Need-end-requires Inv-loop μ-loop
-end-requires c κs = tt
-
-add-i : tie.Need-add-i Inv-loop μ-loop
-add-i c = omega arith
-
-loop-less : tie.Need-loop-less Inv-loop μ-loop
-loop-less c = omega arith
 
 loop-again : tie.Need-loop-again Inv-loop μ-loop
 loop-again c =
@@ -83,20 +53,20 @@ scan-spec =
     (tie.spec
     Inv-loop
     μ-loop
-    first-run-requires
+    (λ c κs. c .pre .0)  -- first-run-requires
     loop-holds
-    slot-ranged-requires
+    (λ c κs. omega arith)  -- slot-ranged-requires
     returns
-    read-requires
-    first-broken-requires
+    (λ c κs. (omega arith, flipped (c .before .slot-ranged .ensures) (c .if1 .left)))  -- read-requires
+    (λ c κs. tt)  -- first-broken-requires
     returns-2
-    starts-run-requires
+    (λ c κs. tt)  -- starts-run-requires
     add-runs
-    cast-readings
-    add-readings
-    end-requires
-    add-i
-    loop-less
+    (λ c. search needs)  -- cast-readings
+    (λ c. omega arith)  -- add-readings
+    (λ c κs. tt)  -- end-requires
+    (λ c. omega arith)  -- add-i
+    (λ c. omega arith)  -- loop-less
     loop-again
     returns-3
     returns-4)

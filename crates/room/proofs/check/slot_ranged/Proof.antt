@@ -9,18 +9,6 @@ use borrow.Author.Needs.{needs}
 use Rattle.room.proofs.check.slot_ranged.Statement.{statement}
 use Rattle.room.proofs.check.slot_ranged.Tie as tie
 
-mul-from : tie.Need-mul-from
-mul-from c = search needs
-
-mul-unsigned : tie.Need-mul-unsigned
-mul-unsigned c = search needs
-
-shared-slice-copy-out-unsigned : tie.Need-shared-slice-copy-out-unsigned
-shared-slice-copy-out-unsigned c = search needs
-
-unsigned-requires : tie.Need-unsigned-requires
-unsigned-requires c κs = search needs
-
 -- a number's test, negated as the code has it
 start : (c : tie.After-unsigned) {v : Bool} → not (c .unsigned .result) ≡ v → let a = c .before .before .args in unsigned (field (a .room .now) (a .at) 0) ≡ not v
 start c h = rw (← h, c .unsigned .ensures, read w64 _ (c .before .unsigned-arg .given), add-zero) (sym (Bool·not-not _))
@@ -29,36 +17,12 @@ returns : tie.Need-returns
 unfolding slotRanged
 returns c = rw (start (c .before) (c .if1 .taken))
 
-add-unsigned : tie.Need-add-unsigned
-add-unsigned c = search needs
-
-mul-unsigned-2 : tie.Need-mul-unsigned-2
-mul-unsigned-2 c = search needs
-
-shared-slice-copy-out-unsigned-2 : tie.Need-shared-slice-copy-out-unsigned-2
-shared-slice-copy-out-unsigned-2 c = search needs
-
-unsigned-requires-2 : tie.Need-unsigned-requires-2
-unsigned-requires-2 c κs = search needs
-
 count : (c : tie.After-unsigned2) {v : Bool} → not (c .unsigned2 .result) ≡ v → let a = c .before .before .before .before .before .args in unsigned (field (a .room .now) (a .at) 1) ≡ not v
 count c h = rw (← h, c .unsigned2 .ensures, read w64 _ (c .before .unsigned-arg2 .given)) (sym (Bool·not-not _))
 
 returns-2 : tie.Need-returns-2
 unfolding slotRanged
 returns-2 c = rw (start (c .before .before .before .before) (c .before .before .before .if1 .left), count (c .before) (c .if2 .taken))
-
-add-signed : tie.Need-add-signed
-add-signed c = search needs
-
-mul-signed : tie.Need-mul-signed
-mul-signed c = search needs
-
-shared-slice-copy-out-signed : tie.Need-shared-slice-copy-out-signed
-shared-slice-copy-out-signed c = search needs
-
-signed-requires : tie.Need-signed-requires
-signed-requires c κs = search needs
 
 least : (c : tie.After-signed) {v : Bool} → not (c .signed .result) ≡ v → let a = c .before .before .before .before .before .before .before .before .args in signed (field (a .room .now) (a .at) 2) ≡ not v
 least c h = rw (← h, c .signed .ensures, read w64 _ (c .before .signed-arg .given)) (sym (Bool·not-not _))
@@ -69,18 +33,6 @@ returns-3 c =
     let two = c .before .before .before in
     let one = two .before .before .before in
     rw (start (one .before) (one .if1 .left), count (two .before) (two .if2 .left), least (c .before) (c .if3 .taken))
-
-add-signed-2 : tie.Need-add-signed-2
-add-signed-2 c = search needs
-
-mul-signed-2 : tie.Need-mul-signed-2
-mul-signed-2 c = search needs
-
-shared-slice-copy-out-signed-2 : tie.Need-shared-slice-copy-out-signed-2
-shared-slice-copy-out-signed-2 c = search needs
-
-signed-requires-2 : tie.Need-signed-requires-2
-signed-requires-2 c κs = search needs
 
 returns-4 : tie.Need-returns-4
 unfolding slotRanged
@@ -100,23 +52,23 @@ pub slot-ranged-spec : {M : Type 1} → statement M
 slot-ranged-spec =
     tie.close
     (tie.spec
-    mul-from
-    mul-unsigned
-    shared-slice-copy-out-unsigned
-    unsigned-requires
+    (λ c. search needs)  -- mul-from
+    (λ c. search needs)  -- mul-unsigned
+    (λ c. search needs)  -- shared-slice-copy-out-unsigned
+    (λ c κs. search needs)  -- unsigned-requires
     returns
-    add-unsigned
-    mul-unsigned-2
-    shared-slice-copy-out-unsigned-2
-    unsigned-requires-2
+    (λ c. search needs)  -- add-unsigned
+    (λ c. search needs)  -- mul-unsigned-2
+    (λ c. search needs)  -- shared-slice-copy-out-unsigned-2
+    (λ c κs. search needs)  -- unsigned-requires-2
     returns-2
-    add-signed
-    mul-signed
-    shared-slice-copy-out-signed
-    signed-requires
+    (λ c. search needs)  -- add-signed
+    (λ c. search needs)  -- mul-signed
+    (λ c. search needs)  -- shared-slice-copy-out-signed
+    (λ c κs. search needs)  -- signed-requires
     returns-3
-    add-signed-2
-    mul-signed-2
-    shared-slice-copy-out-signed-2
-    signed-requires-2
+    (λ c. search needs)  -- add-signed-2
+    (λ c. search needs)  -- mul-signed-2
+    (λ c. search needs)  -- shared-slice-copy-out-signed-2
+    (λ c κs. search needs)  -- signed-requires-2
     returns-4)

@@ -16,24 +16,15 @@ use borrow.Author.Needs.{needs}
 use Rattle.room.proofs.check.sound.Statement.{statement}
 use Rattle.room.proofs.check.sound.Tie as tie
 
-steps-good-requires : tie.Need-steps-good-requires
-steps-good-requires c κs = search needs
-
 returns : tie.Need-returns
 returns c =
     let a = c .before .before .before .args in
     unsound (a .s) (a .room .now) 0 (flipped (c .before .steps-good .ensures) (c .if1 .taken))
 
-gaps-good-requires : tie.Need-gaps-good-requires
-gaps-good-requires c κs = search needs
-
 returns-2 : tie.Need-returns-2
 returns-2 c =
     let a = c .before .before .before .before .before .args in
     unsound (a .s) (a .room .now) 1 (flipped (c .before .gaps-good .ensures) (c .if2 .taken))
-
-runs-allowed-requires : tie.Need-runs-allowed-requires
-runs-allowed-requires c κs = search needs
 
 returns-3 : tie.Need-returns-3
 returns-3 c =
@@ -46,20 +37,11 @@ bounded c =
     let one = two .before .before in
     limits _ (flipped (one .before .steps-good .ensures) (one .if1 .left)) (flipped (two .before .gaps-good .ensures) (two .if2 .left)) (flipped (c .before .runs-allowed .ensures) (c .if3 .left))
 
-needed-requires : tie.Need-needed-requires
-needed-requires c κs = omega (arith, bounded c)
-
-mul-if4 : tie.Need-mul-if4
-mul-if4 c = omega (arith, bounded (c .before), c .needed .ensures)
-
 returns-4 : tie.Need-returns-4
 unfolding roomy
 returns-4 c =
     let a = c .before .before .before .before .before .before .before .before .before .args in
     unsound (a .s) (a .room .now) 3 (lt-leb (slotWidth * needed (a .s .settings)) (length (a .room .now)) (omega (arith, c .before .needed .ensures, c .if4 .taken)))
-
-limit-requires : tie.Need-limit-requires
-limit-requires c κs = omega (arith, bounded (c .before .before))
 
 returns-5 : tie.Need-returns-5
 returns-5 c =
@@ -74,9 +56,6 @@ spare c =
     let four = c .before .before .before in
     omega (arith, bounded (four .before .before), c .before .before .limit .ensures, c .if5 .left, four .before .needed .ensures, four .if4 .left)
 
-scan-requires : tie.Need-scan-requires
-scan-requires c κs = omega (arith, spare c)
-
 scan-answers : (c : tie.After-scan) {v : Bool} → not (c .scan .result) ≡ v
     → let a = c .before .before .before .before .before .before .before .before .before .before .before .before .before .args in scanned (a .s .settings .kind) (a .s .runs) (a .s .readings) (a .room .now) (a .s .used) ≡ not v
 scan-answers c h =
@@ -87,12 +66,6 @@ returns-6 : tie.Need-returns-6
 returns-6 c =
     let a = c .before .before .before .before .before .before .before .before .before .before .before .before .before .before .args in
     unsound (a .s) (a .room .now) 5 (scan-answers (c .before) (c .if6 .taken))
-
-mul-all-zero : tie.Need-mul-all-zero
-mul-all-zero c = omega (arith, spare (c .before .before .before))
-
-mul-all-zero-2 : tie.Need-mul-all-zero-2
-mul-all-zero-2 c = search needs
 
 all-zero-requires : tie.Need-all-zero-requires
 all-zero-requires c κs = omega (arith, spare (c .before .before .before), c .before .before .before .before .before .before .before .needed .ensures)
@@ -126,20 +99,20 @@ pub sound-spec : {M : Type 1} → statement M
 sound-spec =
     tie.close
     (tie.spec
-    steps-good-requires
+    (λ c κs. search needs)  -- steps-good-requires
     returns
-    gaps-good-requires
+    (λ c κs. search needs)  -- gaps-good-requires
     returns-2
-    runs-allowed-requires
+    (λ c κs. search needs)  -- runs-allowed-requires
     returns-3
-    needed-requires
-    mul-if4
+    (λ c κs. omega (arith, bounded c))  -- needed-requires
+    (λ c. omega (arith, bounded (c .before), c .needed .ensures))  -- mul-if4
     returns-4
-    limit-requires
+    (λ c κs. omega (arith, bounded (c .before .before)))  -- limit-requires
     returns-5
-    scan-requires
+    (λ c κs. omega (arith, spare c))  -- scan-requires
     returns-6
-    mul-all-zero
-    mul-all-zero-2
+    (λ c. omega (arith, spare (c .before .before .before)))  -- mul-all-zero
+    (λ c. search needs)  -- mul-all-zero-2
     all-zero-requires
     returns-7)

@@ -7,20 +7,15 @@ use borrow.Author.Needs.{needs}
 use Rattle.room.proofs.steps.ends_before.Statement.{statement}
 use Rattle.room.proofs.steps.ends_before.Tie as tie
 
-returns : tie.Need-returns
-returns c = rw (c .if1 .taken)
-
-sub-read : tie.Need-sub-read
-sub-read c = search needs
-
-read-requires : tie.Need-read-requires
-read-requires c κs = filled (c .before .pre) (c .before .args .at - 1) (omega arith)
-
-end-requires : tie.Need-end-requires
-end-requires c κs = search needs
-
 returns-2 : tie.Need-returns-2
 returns-2 c = rw (c .end .ensures, c .before .read .ensures, lt-ltb 0 (c .before .before .before .args .at) (omega arith))
 
 pub ends-before-spec : {M : Type 1} → statement M
-ends-before-spec = tie.close (tie.spec returns sub-read read-requires end-requires returns-2)
+ends-before-spec =
+    tie.close
+    (tie.spec
+    (λ c. rw (c .if1 .taken))  -- returns
+    (λ c. search needs)  -- sub-read
+    (λ c κs. filled (c .before .pre) (c .before .args .at - 1) (omega arith))  -- read-requires
+    (λ c κs. search needs)  -- end-requires
+    returns-2)

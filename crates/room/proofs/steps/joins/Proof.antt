@@ -5,21 +5,6 @@ use borrow.Author.Needs.{needs}
 use Rattle.room.proofs.steps.joins.Statement.{statement}
 use Rattle.room.proofs.steps.joins.Tie as tie
 
-ends-before-requires : tie.Need-ends-before-requires
-ends-before-requires c κs = filled-before (c .pre .0)
-
-cast-result : tie.Need-cast-result
-cast-result c = search needs
-
-starts-after-requires : tie.Need-starts-after-requires
-starts-after-requires c κs = search needs
-
-cast-result-2 : tie.Need-cast-result-2
-cast-result-2 c = search needs
-
-add-result : tie.Need-add-result
-add-result c = omega (arith, byte-small (c .before .ends-before .result), byte-small (c .starts-after .result))
-
 returns : tie.Need-returns
 returns c = λ v. rw (c .before .ends-before .ensures, c .starts-after .ensures) (slot-joins (c .before .before .pre .0) (c .before .before .pre .1) v)
 
@@ -27,9 +12,9 @@ pub joins-spec : {M : Type 1} → statement M
 joins-spec =
     tie.close
     (tie.spec
-    ends-before-requires
-    cast-result
-    starts-after-requires
-    cast-result-2
-    add-result
+    (λ c κs. filled-before (c .pre .0))  -- ends-before-requires
+    (λ c. search needs)  -- cast-result
+    (λ c κs. search needs)  -- starts-after-requires
+    (λ c. search needs)  -- cast-result-2
+    (λ c. omega (arith, byte-small (c .before .ends-before .result), byte-small (c .starts-after .result)))  -- add-result
     returns)

@@ -10,33 +10,15 @@ Inv-loop runs room₀ used most left₀ room left = Merged runs most room₀ use
 abbrev μ-loop : tie.MeasureT-loop
 μ-loop runs room₀ used most left₀ room left = left
 
-limit-requires : tie.Need-limit-requires Inv-loop μ-loop
-limit-requires c κs = c .pre .small
-
-loop-holds : tie.Need-loop-holds Inv-loop μ-loop
-loop-holds c = rw (c .limit .ensures) (merged-start (c .before .pre))
-
-cheapest-requires : tie.Need-cheapest-requires Inv-loop μ-loop
-cheapest-requires c κs = c .before .before .loop .inv .filled
-
 merge-requires : tie.Need-merge-requires Inv-loop μ-loop
 merge-requires c κs =
     let p = c .before .before .before .before .loop .inv in
     (p .filled, (rw (c .before .cheapest .ensures) (merged-place p (c .before .before .before .loop-test .taken)), p .count))
 
-sub-left : tie.Need-sub-left Inv-loop μ-loop
-sub-left c = omega arith
-
-loop-less : tie.Need-loop-less Inv-loop μ-loop
-loop-less c = omega arith
-
 loop-again : tie.Need-loop-again Inv-loop μ-loop
 loop-again c =
     let t = c .before .before .before .before .before in
     merged-step (t .before .loop .inv) (t .loop-test .taken) _ (rw (c .before .before .before .cheapest .ensures) at (c .before .merge .ensures))
-
-same-length : tie.Need-same-length Inv-loop μ-loop
-same-length c = merged-same-length (c .before .loop .inv) (c .before .before .before .pre .filled .there)
 
 returns : tie.Need-returns Inv-loop μ-loop
 returns c = merged-end (c .before .loop .inv) (c .before .before .before .args .s) (c .before .before .limit .ensures) (c .loop-test .left)
@@ -47,12 +29,12 @@ settle-spec =
     (tie.spec
     Inv-loop
     μ-loop
-    limit-requires
-    loop-holds
-    cheapest-requires
+    (λ c κs. c .pre .small)  -- limit-requires
+    (λ c. rw (c .limit .ensures) (merged-start (c .before .pre)))  -- loop-holds
+    (λ c κs. c .before .before .loop .inv .filled)  -- cheapest-requires
     merge-requires
-    sub-left
-    loop-less
+    (λ c. omega arith)  -- sub-left
+    (λ c. omega arith)  -- loop-less
     loop-again
-    same-length
+    (λ c. merged-same-length (c .before .loop .inv) (c .before .before .before .pre .filled .there))  -- same-length
     returns)

@@ -6,22 +6,17 @@ use borrow.Author.Needs.{needs}
 use Rattle.room.proofs.steps.starts_after.Statement.{statement}
 use Rattle.room.proofs.steps.starts_after.Tie as tie
 
-returns : tie.Need-returns
-returns c = rw (le-ltb (c .before .args .at) (c .before .args .used) (c .if1 .taken))
-
-read-requires : tie.Need-read-requires
-read-requires c κs = filled (c .before .pre) (c .before .args .at) (c .if1 .left)
-
-cast-result : tie.Need-cast-result
-cast-result c = search needs
-
-add-result : tie.Need-add-result
-add-result c = search needs
-
 returns-2 : tie.Need-returns-2
 returns-2 c =
     let a = c .before .before .before .args in
     rw (c .before .read .ensures, add-one (a .tick), lt-ltb (a .at) (a .used) (c .before .before .if1 .left))
 
 pub starts-after-spec : {M : Type 1} → statement M
-starts-after-spec = tie.close (tie.spec returns read-requires cast-result add-result returns-2)
+starts-after-spec =
+    tie.close
+    (tie.spec
+    (λ c. rw (le-ltb (c .before .args .at) (c .before .args .used) (c .if1 .taken)))  -- returns
+    (λ c κs. filled (c .before .pre) (c .before .args .at) (c .if1 .left))  -- read-requires
+    (λ c. search needs)  -- cast-result
+    (λ c. search needs)  -- add-result
+    returns-2)

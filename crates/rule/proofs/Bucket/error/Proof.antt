@@ -9,15 +9,6 @@ use Rattle.rule.proofs.Signed.{read}
 use Rattle.rule.proofs.Bucket.error.Statement.{statement}
 use Rattle.rule.proofs.Bucket.error.Tie as tie
 
-middle-requires : tie.Need-middle-requires
-middle-requires c κs = search needs
-
-distance-requires : tie.Need-distance-requires
-distance-requires c κs = search needs
-
-distance-requires-2 : tie.Need-distance-requires-2
-distance-requires-2 c κs = search needs
-
 measured : (c : tie.After-distance2) → max (c .before .before .distance .result) (c .distance2 .result) ≡ error (c .before .before .before .before .before .before .before .args .self)
 measured c =
     let level = c .before .before .before .before .middle in
@@ -32,11 +23,12 @@ measured c =
       read w32 (b .largest) (told .1 .0 .1),
     )
 
-returns : tie.Need-returns
-returns c = omega (arith, measured (c .before))
-
-returns-2 : tie.Need-returns-2
-returns-2 c = omega (arith, measured (c .before))
-
 pub error-spec : {M : Type 1} → statement M
-error-spec = tie.close (tie.spec middle-requires distance-requires distance-requires-2 returns returns-2)
+error-spec =
+    tie.close
+    (tie.spec
+    (λ c κs. search needs)  -- middle-requires
+    (λ c κs. search needs)  -- distance-requires
+    (λ c κs. search needs)  -- distance-requires-2
+    (λ c. omega (arith, measured (c .before)))  -- returns
+    (λ c. omega (arith, measured (c .before))))  -- returns-2

@@ -31,14 +31,10 @@ none Absent k = refl
 none Short k = refl
 none Line k = refl
 
-enum-known-self : tie.Need-enum-known-self
-enum-known-self c = search needs
-
-returns : tie.Need-returns
-returns c = search needs
-
-returns-2 : tie.Need-returns-2
-returns-2 c = none (c .before .args .self) (c .match .keys2)
-
 pub place-spec : {M : Type 1} → statement M
-place-spec = tie.close (tie.spec enum-known-self returns returns-2)
+place-spec =
+    tie.close
+    (tie.spec
+    (λ c. search needs)  -- enum-known-self
+    (λ c. search needs)  -- returns
+    (λ c. none (c .before .args .self) (c .match .keys2)))  -- returns-2

@@ -12,41 +12,17 @@ Inv-loop room₀ from to i₀ room i = Copied room₀ from to (zeros (to - from)
 abbrev μ-loop : tie.MeasureT-loop
 μ-loop room₀ from to i₀ room i = to - i
 
-loop-holds : tie.Need-loop-holds Inv-loop μ-loop
-loop-holds c = cleared-start _ _ _ (c .pre .0) (c .pre .1)
-
-mul-room : tie.Need-mul-room Inv-loop μ-loop
-mul-room c = omega arith
-
-slice-set-of-room : tie.Need-slice-set-of-room Inv-loop μ-loop
-slice-set-of-room c = omega arith
-
-add-i : tie.Need-add-i Inv-loop μ-loop
-add-i c = omega arith
-
-loop-less : tie.Need-loop-less Inv-loop μ-loop
-loop-less c = omega arith
-
-loop-again : tie.Need-loop-again Inv-loop μ-loop
-loop-again c = cleared-step (c .before .loop .inv) (c .loop-test .taken)
-
-same-length : tie.Need-same-length Inv-loop μ-loop
-same-length c = c .before .loop .inv .same
-
-returns : tie.Need-returns Inv-loop μ-loop
-returns c = copied-end (c .before .loop .inv) (c .loop-test .left)
-
 pub clear-spec : {M : Type 1} → statement M
 clear-spec =
     tie.close
     (tie.spec
     Inv-loop
     μ-loop
-    loop-holds
-    mul-room
-    slice-set-of-room
-    add-i
-    loop-less
-    loop-again
-    same-length
-    returns)
+    (λ c. cleared-start _ _ _ (c .pre .0) (c .pre .1))  -- loop-holds
+    (λ c. omega arith)  -- mul-room
+    (λ c. omega arith)  -- slice-set-of-room
+    (λ c. omega arith)  -- add-i
+    (λ c. omega arith)  -- loop-less
+    (λ c. cleared-step (c .before .loop .inv) (c .loop-test .taken))  -- loop-again
+    (λ c. c .before .loop .inv .same)  -- same-length
+    (λ c. copied-end (c .before .loop .inv) (c .loop-test .left)))  -- returns

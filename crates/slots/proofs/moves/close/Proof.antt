@@ -16,43 +16,10 @@ Inv-loop room₀ from to i₀ room i = Copied room₀ from (to - slotWidth) (bet
 abbrev μ-loop : tie.MeasureT-loop
 μ-loop room₀ from to i₀ room i = to - i
 
-loop-holds : tie.Need-loop-holds Inv-loop μ-loop
-loop-holds c = lowered-start _ _ _ _ (c .pre .0) (c .pre .1)
-
-add-loop : tie.Need-add-loop Inv-loop μ-loop
-add-loop c = omega arith
-
-add-room : tie.Need-add-room Inv-loop μ-loop
-add-room c = omega arith
-
-mul-room : tie.Need-mul-room Inv-loop μ-loop
-mul-room c = omega arith
-
-slice-copy-out-room : tie.Need-slice-copy-out-room Inv-loop μ-loop
-slice-copy-out-room c = omega arith
-
-mul-t10 : tie.Need-mul-t10 Inv-loop μ-loop
-mul-t10 c = omega arith
-
-slice-set-from-room : tie.Need-slice-set-from-room Inv-loop μ-loop
-slice-set-from-room c = omega arith
-
-add-i : tie.Need-add-i Inv-loop μ-loop
-add-i c = omega arith
-
-loop-less : tie.Need-loop-less Inv-loop μ-loop
-loop-less c = omega arith
-
 loop-again : tie.Need-loop-again Inv-loop μ-loop
 loop-again c =
     let s = c .before .before .before in
     rw (read w64 _ (c .room .given)) (lowered-step _ _ _ _ (s .pre .0) (s .pre .1) (c .before .before .loop .inv) (c .before .loop-test .taken))
-
-clear-requires : tie.Need-clear-requires Inv-loop μ-loop
-clear-requires c κs = omega arith
-
-same-length : tie.Need-same-length Inv-loop μ-loop
-same-length c = search needs
 
 returns : tie.Need-returns Inv-loop μ-loop
 returns c =
@@ -65,16 +32,16 @@ close-spec =
     (tie.spec
     Inv-loop
     μ-loop
-    loop-holds
-    add-loop
-    add-room
-    mul-room
-    slice-copy-out-room
-    mul-t10
-    slice-set-from-room
-    add-i
-    loop-less
+    (λ c. lowered-start _ _ _ _ (c .pre .0) (c .pre .1))  -- loop-holds
+    (λ c. omega arith)  -- add-loop
+    (λ c. omega arith)  -- add-room
+    (λ c. omega arith)  -- mul-room
+    (λ c. omega arith)  -- slice-copy-out-room
+    (λ c. omega arith)  -- mul-t10
+    (λ c. omega arith)  -- slice-set-from-room
+    (λ c. omega arith)  -- add-i
+    (λ c. omega arith)  -- loop-less
     loop-again
-    clear-requires
-    same-length
+    (λ c κs. omega arith)  -- clear-requires
+    (λ c. search needs)  -- same-length
     returns)

@@ -50,41 +50,17 @@ origin c = start (sought (unheld c))
 truth : (c : tie.After-joins) → origin c .args .self .state .runs + 1 - c .joins .result ≡ runs (with (origin c .args .self .state) (origin c .args .room .now) (origin c .args .tick) (origin c .args .value))
 truth c = late-truth (passed (sought (unheld c))) (c .joins .result) (c .joins .ensures) (origin c .args .value)
 
-sound-requires : tie.Need-sound-requires
-sound-requires c κs = search needs
-
-same-length : tie.Need-same-length
-same-length c = search needs
-
 returns : tie.Need-returns
 unfolding lateVerdict checked traced answer
 returns c = rw (flipped (c .before .sound .ensures) (c .if1 .taken))
-
-is-late-requires : tie.Need-is-late-requires
-is-late-requires c κs = search needs
-
-same-length-2 : tie.Need-same-length-2
-same-length-2 c = search needs
 
 returns-2 : tie.Need-returns-2
 unfolding lateVerdict checked traced answer
 returns-2 c = rw (whole (c .before .before .before), flipped (c .before .is-late .ensures) (c .if2 .taken))
 
-same-length-3 : tie.Need-same-length-3
-same-length-3 c = search needs
-
 returns-3 : tie.Need-returns-3
 unfolding lateVerdict checked traced answer
 returns-3 c = rw (whole (c .before .before .before .before), is-late (c .before), le-leb ticks _ (c .if3 .taken))
-
-find-requires : tie.Need-find-requires
-find-requires c κs = late-filled (passed (c .before))
-
-held-requires : tie.Need-held-requires
-held-requires c κs = placed (c .before)
-
-same-length-4 : tie.Need-same-length-4
-same-length-4 c = search needs
 
 returns-4 : tie.Need-returns-4
 unfolding lateVerdict checked traced answer
@@ -93,17 +69,11 @@ returns-4 c =
     let p = passed (at .before .before) in
     rw (p .fit, p .kind, lt-leb ticks _ (p .small), sym (c .before .held .ensures) ∙ c .if4 .taken)
 
-add-runs : tie.Need-add-runs
-add-runs c = omega (arith, late-runs (passed (sought (c .before))))
-
 joins-requires : tie.Need-joins-requires
 joins-requires c κs = let four = c .before .before in (placed (four .before .before .before), late-free (passed (sought four)) (free four))
 
 sub-runs : tie.Need-sub-runs
 sub-runs c = late-joins (passed (sought (unheld c))) (c .joins .result) (c .joins .ensures) (origin c .args .value)
-
-same-length-5 : tie.Need-same-length-5
-same-length-5 c = search needs
 
 returns-5 : tie.Need-returns-5
 unfolding checked traced answer
@@ -119,9 +89,6 @@ accept-requires c κs =
     rw (toZ-ofZ (origin j .fits .value))
     (late-ready (passed (sought four)) (free four) (four .before .before .before .find .ensures) (truth j) (c .before .if5 .left))
 
-same-length-6 : tie.Need-same-length-6
-same-length-6 c = search needs
-
 returns-6 : tie.Need-returns-6
 unfolding checked traced answer
 returns-6 c =
@@ -135,23 +102,23 @@ pub late-spec : {M : Type 1} → statement M
 late-spec =
     tie.close
     (tie.spec
-    sound-requires
-    same-length
+    (λ c κs. search needs)  -- sound-requires
+    (λ c. search needs)  -- same-length
     returns
-    is-late-requires
-    same-length-2
+    (λ c κs. search needs)  -- is-late-requires
+    (λ c. search needs)  -- same-length-2
     returns-2
-    same-length-3
+    (λ c. search needs)  -- same-length-3
     returns-3
-    find-requires
-    held-requires
-    same-length-4
+    (λ c κs. late-filled (passed (c .before)))  -- find-requires
+    (λ c κs. placed (c .before))  -- held-requires
+    (λ c. search needs)  -- same-length-4
     returns-4
-    add-runs
+    (λ c. omega (arith, late-runs (passed (sought (c .before)))))  -- add-runs
     joins-requires
     sub-runs
-    same-length-5
+    (λ c. search needs)  -- same-length-5
     returns-5
     accept-requires
-    same-length-6
+    (λ c. search needs)  -- same-length-6
     returns-6)

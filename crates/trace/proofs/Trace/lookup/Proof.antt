@@ -36,9 +36,6 @@ told : (c : tie.After-held) {v : Bool} → not (c .held .result) ≡ v
     → let a = c .before .before .before .before .before .before .args in isHeld (holding (a .tick) (tableOf (a .self .state) (a .room .now))) ≡ not v
 told c = flipped (c .held .ensures)
 
-sound-requires : tie.Need-sound-requires
-sound-requires c κs = search needs
-
 returns : tie.Need-returns
 unfolding lookupOutcome checked foundOf
 returns c = rw (flipped (c .before .sound .ensures) (c .if1 .taken))
@@ -52,25 +49,16 @@ find-requires c κs =
     let a = c .before .before .before .before .args in
     sound-filled (a .self .state) (a .room .now) (sound-facts (a .self .state) (a .room .now) (whole (c .before)))
 
-held-requires : tie.Need-held-requires
-held-requires c κs = placed c
-
 returns-3 : tie.Need-returns-3
 unfolding lookupOutcome checked foundOf found
 returns-3 c =
     let past = c .before .before .before in
     rw (whole (past .before), in-range past, not-held _ (told (c .before) (c .if3 .taken)))
 
-sub-read : tie.Need-sub-read
-sub-read c = omega (arith, past-first (placed (c .before .before)) (told (c .before) (c .if3 .left)))
-
 read-requires : tie.Need-read-requires
 read-requires c κs =
     let w = placed (c .before .before) in
     filled (filled-before w) _ (omega (arith, past-first w (told (c .before) (c .if3 .left))))
-
-found-in-requires : tie.Need-found-in-requires
-found-in-requires c κs = search needs
 
 returns-4 : tie.Need-returns-4
 unfolding lookupOutcome checked foundOf
@@ -83,13 +71,13 @@ pub lookup-spec : {M : Type 1} → statement M
 lookup-spec =
     tie.close
     (tie.spec
-    sound-requires
+    (λ c κs. search needs)  -- sound-requires
     returns
     returns-2
     find-requires
-    held-requires
+    (λ c κs. placed c)  -- held-requires
     returns-3
-    sub-read
+    (λ c. omega (arith, past-first (placed (c .before .before)) (told (c .before) (c .if3 .left))))  -- sub-read
     read-requires
-    found-in-requires
+    (λ c κs. search needs)  -- found-in-requires
     returns-4)

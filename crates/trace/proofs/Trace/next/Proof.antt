@@ -24,21 +24,9 @@ whole c = flipped (c .before .sound .ensures) (c .if1 .left)
 in-order : (c : tie.Else2) → late (c .before .before .before .before .before .before .before .args .self .state .settings .kind) ≡ false
 in-order c = sym (c .before .is-late .ensures) ∙ c .if2 .left
 
-sound-requires : tie.Need-sound-requires
-sound-requires c κs = search needs
-
-same-length : tie.Need-same-length
-same-length c = search needs
-
 returns : tie.Need-returns
 unfolding nextVerdict checked traced answer
 returns c = rw (flipped (c .before .sound .ensures) (c .if1 .taken))
-
-is-late-requires : tie.Need-is-late-requires
-is-late-requires c κs = search needs
-
-same-length-2 : tie.Need-same-length-2
-same-length-2 c = search needs
 
 returns-2 : tie.Need-returns-2
 unfolding nextVerdict checked traced answer
@@ -49,17 +37,11 @@ next-tick-requires c κs =
     let a = c .before .before .before .before .before .before .before .before in
     sound-filled (a .args .self .state) (a .args .room .now) (sound-facts (a .args .self .state) (a .args .room .now) (whole (c .before .before .before .before)))
 
-same-length-3 : tie.Need-same-length-3
-same-length-3 c = search needs
-
 returns-3 : tie.Need-returns-3
 unfolding nextVerdict checked traced answer
 returns-3 c =
     let past = c .before .before .before in
     rw (whole (past .before .before .before), in-order past, ← c .before .next-tick .ensures, le-leb ticks (c .before .next-tick .result) (c .if3 .taken))
-
-cast-accept : tie.Need-cast-accept
-cast-accept c = search needs
 
 accept-requires : tie.Need-accept-requires
 accept-requires c κs =
@@ -67,9 +49,6 @@ accept-requires c κs =
     let a = past .before .before .before .before .before .before .before in
     rw (c .before .before .next-tick .ensures, toZ-ofZ (a .fits .value))
     (next-ready (a .args .self .state) (a .args .room .now) (a .args .value) (whole (past .before .before .before)) (in-order past) (omega (arith, c .before .before .next-tick .ensures)))
-
-same-length-4 : tie.Need-same-length-4
-same-length-4 c = search needs
 
 returns-4 : tie.Need-returns-4
 unfolding nextVerdict checked traced answer
@@ -84,16 +63,16 @@ pub next-spec : {M : Type 1} → statement M
 next-spec =
     tie.close
     (tie.spec
-    sound-requires
-    same-length
+    (λ c κs. search needs)  -- sound-requires
+    (λ c. search needs)  -- same-length
     returns
-    is-late-requires
-    same-length-2
+    (λ c κs. search needs)  -- is-late-requires
+    (λ c. search needs)  -- same-length-2
     returns-2
     next-tick-requires
-    same-length-3
+    (λ c. search needs)  -- same-length-3
     returns-3
-    cast-accept
+    (λ c. search needs)  -- cast-accept
     accept-requires
-    same-length-4
+    (λ c. search needs)  -- same-length-4
     returns-4)

@@ -23,38 +23,11 @@ small c =
     let g = granted c in
     omega (arith, g .1, needed-small (kept (c .before .before .before .before .before .args .named)) (g .0 .steps) (g .0 .gaps))
 
-kept-requires : tie.Need-kept-requires
-kept-requires c κs = search needs
-
-admit-requires : tie.Need-admit-requires
-admit-requires c κs = search needs
-
-enum-known-r : tie.Need-enum-known-r
-enum-known-r c = search needs
-
-enum-known-needed : tie.Need-enum-known-needed
-enum-known-needed c = search needs
-
-mul-clear : tie.Need-mul-clear
-mul-clear c = omega (arith, small (c .before .before))
-
-clear-requires : tie.Need-clear-requires
-clear-requires c κs = let g = granted (c .before .before) in omega (arith, g .1, g .0 .long)
-
-empty-requires : tie.Need-empty-requires
-empty-requires c κs = search needs
-
-same-length : tie.Need-same-length
-same-length c = search needs
-
 returns : tie.Need-returns
 unfolding traced answer
 returns c =
     let a = c .before .before .before .before .before .before .args in
     rw (admit-refuses (kept (a .named)) (a .room .now) (c .before .r .given .0 .0) (rw (c .before .before .before .before .before .kept .ensures) at (sym (c .before .before .before .admit .ensures) ∙ c .before .r .given .1)))
-
-same-length-2 : tie.Need-same-length-2
-same-length-2 c = search needs
 
 returns-2 : tie.Need-returns-2
 unfolding traced answer laid flat readings runs
@@ -67,14 +40,14 @@ pub open-spec : {M : Type 1} → statement M
 open-spec =
     tie.close
     (tie.spec
-    kept-requires
-    admit-requires
-    enum-known-r
-    enum-known-needed
-    mul-clear
-    clear-requires
-    empty-requires
-    same-length
+    (λ c κs. search needs)  -- kept-requires
+    (λ c κs. search needs)  -- admit-requires
+    (λ c. search needs)  -- enum-known-r
+    (λ c. search needs)  -- enum-known-needed
+    (λ c. omega (arith, small (c .before .before)))  -- mul-clear
+    (λ c κs. let g = granted (c .before .before) in omega (arith, g .1, g .0 .long))  -- clear-requires
+    (λ c κs. search needs)  -- empty-requires
+    (λ c. search needs)  -- same-length
     returns
-    same-length-2
+    (λ c. search needs)  -- same-length-2
     returns-2)

@@ -1,0 +1,3 @@
+-- What is shown, and one outcome.
+pub mod Showing
+pub mod OneOutcome

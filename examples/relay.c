@@ -1,4 +1,4 @@
-/* Opens a trace, feeds it, looks a tick up, saves it, loads it into another room and prints its row. Built and run by ./example. */
+/* Opens a trace, feeds it, looks a tick up, saves it, loads it into another room and prints its row. Built and run by tools/example. */
 #include "ndezulangi.h"
 #include <inttypes.h>
 #include <stdio.h>

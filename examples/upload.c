@@ -1,7 +1,7 @@
 /* upload FILE: takes readings from standard input, one whole number a line, keeps them as at most 64 steps, saves these to FILE, loads them
  * again as another program would, and prints a line a step (start, count, least, largest, level) and the worst error.
  * The exit status is 0, or 1 where something is refused or cannot be read or written: standard error then says what, and where. The first line
- * that is refused ends the run, and nothing is saved. Built and run by ./example. */
+ * that is refused ends the run, and nothing is saved. Built and run by tools/example. */
 #include "ndezulangi.h"
 #include <inttypes.h>
 #include <stdio.h>

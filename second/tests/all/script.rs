@@ -1,8 +1,9 @@
 //! Scripts try what they are meant to, and are obeyed as they were made.
 
 use crate::sound::is_sound;
+use second::calls::Tally;
 use second::clauses::{self, CLAUSES};
-use second::command::Command;
+use second::command::{Command, Word};
 use second::counts::{self, REFUSALS};
 use second::scripts::{self, chance};
 use second::session::Session;
@@ -96,6 +97,34 @@ fn each_clause_is_broken_alone_and_no_clause_where_the_trace_is_sound() {
         }
     }
     assert!(alone.iter().all(|&times| times >= 10), "{alone:?}");
+}
+
+#[test]
+fn a_fresh_tally_of_an_opened_trace_has_a_merge_for_each_reading_without_a_bucket() {
+    let script = scripts::of_name("sessions").unwrap();
+    let mut session = Session::new();
+    let mut fresh = false;
+    let mut balanced = 0;
+    for line in script.text.lines() {
+        let Some(command) = Command::of_line(line).unwrap() else {
+            continue;
+        };
+        session.obey(&command);
+        match command.word {
+            Word::Tally => fresh = session.tally == Tally::default(),
+            // A loaded trace has a bucket of readings that were not counted.
+            Word::Load => fresh = false,
+            Word::NextTold | Word::LateTold if fresh => {
+                let Tally {
+                    accepted, merges, ..
+                } = session.tally;
+                assert_eq!(u64::from(accepted - merges), session.state.used, "{line}");
+                balanced += 1;
+            }
+            _ => {}
+        }
+    }
+    assert!(balanced >= 1_000, "{balanced}");
 }
 
 #[test]

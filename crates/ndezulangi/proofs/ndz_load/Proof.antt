@@ -5,21 +5,6 @@ use Rattle.ndezulangi.specs.Plain.{none, replied}
 use Rattle.ndezulangi.proofs.ndz_load.Statement.{statement}
 use Rattle.ndezulangi.proofs.ndz_load.Tie as tie
 
-settings-of-requires : tie.Need-settings-of-requires
-settings-of-requires c κs = search needs
-
-none-requires : tie.Need-none-requires
-none-requires c κs = search needs
-
-load-requires : tie.Need-load-requires
-load-requires c κs = search needs
-
-replying-requires : tie.Need-replying-requires
-replying-requires c κs = search needs
-
-same-length : tie.Need-same-length
-same-length c = search needs
-
 returns : tie.Need-returns
 returns c = rw (c .replying .ensures, c .before .before .before .before .none .ensures) (ap (replied none) (rw (c .before .before .before .before .before .settings-of .ensures) at (c .before .before .load .ensures)))
 
@@ -27,9 +12,9 @@ pub ndz-load-spec : {M : Type 1} → statement M
 ndz-load-spec =
     tie.close
     (tie.spec
-    settings-of-requires
-    none-requires
-    load-requires
-    replying-requires
-    same-length
+    (λ c κs. search needs)  -- settings-of-requires
+    (λ c κs. search needs)  -- none-requires
+    (λ c κs. search needs)  -- load-requires
+    (λ c κs. search needs)  -- replying-requires
+    (λ c. search needs)  -- same-length
     returns)

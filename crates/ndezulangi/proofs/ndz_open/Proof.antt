@@ -5,21 +5,6 @@ use Rattle.ndezulangi.specs.Plain.{none, replied}
 use Rattle.ndezulangi.proofs.ndz_open.Statement.{statement}
 use Rattle.ndezulangi.proofs.ndz_open.Tie as tie
 
-settings-of-requires : tie.Need-settings-of-requires
-settings-of-requires c κs = search needs
-
-none-requires : tie.Need-none-requires
-none-requires c κs = search needs
-
-open-requires : tie.Need-open-requires
-open-requires c κs = search needs
-
-replying-requires : tie.Need-replying-requires
-replying-requires c κs = search needs
-
-same-length : tie.Need-same-length
-same-length c = search needs
-
 returns : tie.Need-returns
 returns c = rw (c .replying .ensures, c .before .before .before .before .none .ensures) (ap (replied none) (rw (c .before .before .before .before .before .settings-of .ensures) at (c .before .before .«open» .ensures)))
 
@@ -27,9 +12,9 @@ pub ndz-open-spec : {M : Type 1} → statement M
 ndz-open-spec =
     tie.close
     (tie.spec
-    settings-of-requires
-    none-requires
-    open-requires
-    replying-requires
-    same-length
+    (λ c κs. search needs)  -- settings-of-requires
+    (λ c κs. search needs)  -- none-requires
+    (λ c κs. search needs)  -- open-requires
+    (λ c κs. search needs)  -- replying-requires
+    (λ c. search needs)  -- same-length
     returns)

@@ -4,12 +4,6 @@ use Rattle.ndezulangi.specs.Plain.{numberOf}
 use Rattle.ndezulangi.proofs.number_of.Statement.{statement}
 use Rattle.ndezulangi.proofs.number_of.Tie as tie
 
-enum-told : tie.Need-enum-told
-enum-told c = search needs
-
-enum-told-2 : tie.Need-enum-told-2
-enum-told-2 c = search needs
-
 returns : tie.Need-returns
 unfolding numberOf
 returns c = rw (c .enum-told .given .1)
@@ -19,4 +13,10 @@ unfolding numberOf
 returns-2 c = rw (c .enum-told2 .given .1)
 
 pub number-of-spec : {M : Type 1} → statement M
-number-of-spec = tie.close (tie.spec enum-told enum-told-2 returns returns-2)
+number-of-spec =
+    tie.close
+    (tie.spec
+    (λ c. search needs)  -- enum-told
+    (λ c. search needs)  -- enum-told-2
+    returns
+    returns-2)

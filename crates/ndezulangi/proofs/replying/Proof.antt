@@ -4,21 +4,6 @@ use Rattle.ndezulangi.specs.Plain.{replying}
 use Rattle.ndezulangi.proofs.replying.Statement.{statement}
 use Rattle.ndezulangi.proofs.replying.Tie as tie
 
-enum-known-a : tie.Need-enum-known-a
-enum-known-a c = search needs
-
-fields-of-requires : tie.Need-fields-of-requires
-fields-of-requires c κs = search needs
-
-enum-known-a-2 : tie.Need-enum-known-a-2
-enum-known-a-2 c = search needs
-
-number-requires : tie.Need-number-requires
-number-requires c κs = search needs
-
-place-requires : tie.Need-place-requires
-place-requires c κs = search needs
-
 returns : tie.Need-returns
 unfolding replying
 returns c = rw (c .before .before .a .given .1, c .fields-of .ensures)
@@ -31,10 +16,10 @@ pub replying-spec : {M : Type 1} → statement M
 replying-spec =
     tie.close
     (tie.spec
-    enum-known-a
-    fields-of-requires
-    enum-known-a-2
-    number-requires
-    place-requires
+    (λ c. search needs)  -- enum-known-a
+    (λ c κs. search needs)  -- fields-of-requires
+    (λ c. search needs)  -- enum-known-a-2
+    (λ c κs. search needs)  -- number-requires
+    (λ c κs. search needs)  -- place-requires
     returns
     returns-2)

@@ -6,18 +6,6 @@ use Rattle.ndezulangi.specs.Plain.{showing}
 use Rattle.ndezulangi.proofs.showing.Statement.{statement}
 use Rattle.ndezulangi.proofs.showing.Tie as tie
 
-enum-known-f : tie.Need-enum-known-f
-enum-known-f c = search needs
-
-enum-known-f-2 : tie.Need-enum-known-f-2
-enum-known-f-2 c = search needs
-
-number-requires : tie.Need-number-requires
-number-requires c κs = search needs
-
-place-requires : tie.Need-place-requires
-place-requires c κs = search needs
-
 returns : tie.Need-returns
 unfolding showing
 returns c =
@@ -32,4 +20,10 @@ returns-2 c = rw (c .before .before .before .f2 .given .1, c .before .number .en
 pub showing-spec : {M : Type 1} → statement M
 showing-spec =
     tie.close
-    (tie.spec enum-known-f enum-known-f-2 number-requires place-requires returns returns-2)
+    (tie.spec
+    (λ c. search needs)  -- enum-known-f
+    (λ c. search needs)  -- enum-known-f-2
+    (λ c κs. search needs)  -- number-requires
+    (λ c κs. search needs)  -- place-requires
+    returns
+    returns-2)

@@ -4,18 +4,6 @@ use Rattle.ndezulangi.specs.Plain.{telling}
 use Rattle.ndezulangi.proofs.telling.Statement.{statement}
 use Rattle.ndezulangi.proofs.telling.Tie as tie
 
-enum-known-w : tie.Need-enum-known-w
-enum-known-w c = search needs
-
-enum-known-w-2 : tie.Need-enum-known-w-2
-enum-known-w-2 c = search needs
-
-number-requires : tie.Need-number-requires
-number-requires c κs = search needs
-
-place-requires : tie.Need-place-requires
-place-requires c κs = search needs
-
 returns : tie.Need-returns
 unfolding telling
 returns c = rw (c .before .w .given .1)
@@ -27,4 +15,10 @@ returns-2 c = rw (c .before .before .before .w2 .given .1, c .before .number .en
 pub telling-spec : {M : Type 1} → statement M
 telling-spec =
     tie.close
-    (tie.spec enum-known-w enum-known-w-2 number-requires place-requires returns returns-2)
+    (tie.spec
+    (λ c. search needs)  -- enum-known-w
+    (λ c. search needs)  -- enum-known-w-2
+    (λ c κs. search needs)  -- number-requires
+    (λ c κs. search needs)  -- place-requires
+    returns
+    returns-2)

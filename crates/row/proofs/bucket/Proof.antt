@@ -17,6 +17,9 @@ use Rattle.row.proofs.bucket.Tie as tie
 whole : (c : tie.Else1) → sound (c .before .before .before .args .trace .state) (c .before .before .before .args .room .now) ≡ true
 whole c = flipped (c .before .sound .ensures) (c .if1 .left)
 
+sound-requires : tie.Need-sound-requires
+sound-requires c κs = search needs
+
 returns : tie.Need-returns
 unfolding partOutcome parted checked
 returns c = rw (flipped (c .before .sound .ensures) (c .if1 .taken))
@@ -39,11 +42,4 @@ returns-3 c =
     rw (c .read .ensures, whole (c .before .before .before)) (sym (part-slot (a .room .now) 0 (a .index) (a .index) (a .trace .state .used) (omega arith) (c .before .if2 .left)))
 
 pub bucket-spec : {M : Type 1} → statement M
-bucket-spec =
-    tie.close
-    (tie.spec
-    (λ c κs. search needs)  -- sound-requires
-    returns
-    returns-2
-    read-requires
-    returns-3)
+bucket-spec = tie.close (tie.spec sound-requires returns returns-2 read-requires returns-3)

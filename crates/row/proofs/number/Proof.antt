@@ -4,6 +4,12 @@ use Rattle.row.specs.Parts.{number}
 use Rattle.row.proofs.number.Statement.{statement}
 use Rattle.row.proofs.number.Tie as tie
 
+enum-known-w : tie.Need-enum-known-w
+enum-known-w c = search needs
+
+enum-told : tie.Need-enum-told
+enum-told c = search needs
+
 returns : tie.Need-returns
 unfolding number
 returns c = rw (c .before .w .given .1)
@@ -13,10 +19,4 @@ unfolding number
 returns-2 c = rw (c .enum-told .given .1)
 
 pub number-spec : {M : Type 1} → statement M
-number-spec =
-    tie.close
-    (tie.spec
-    (λ c. search needs)  -- enum-known-w
-    (λ c. search needs)  -- enum-told
-    returns
-    returns-2)
+number-spec = tie.close (tie.spec enum-known-w enum-told returns returns-2)

@@ -19,6 +19,9 @@ use Rattle.row.proofs.numbers.Tie as tie
 whole : (c : tie.Else1) → sound (c .before .before .before .args .trace .state) (c .before .before .before .args .room .now) ≡ true
 whole c = flipped (c .before .sound .ensures) (c .if1 .left)
 
+sound-requires : tie.Need-sound-requires
+sound-requires c κs = search needs
+
 returns : tie.Need-returns
 unfolding writeVerdict checked wrote
 returns c = rw (flipped (c .before .sound .ensures) (c .if1 .taken))
@@ -35,10 +38,16 @@ returns-2 c =
     let a = c .before .before .before .before .before .args in
     rw (whole (c .before .before), lt-ltb (length (a .out .now)) (slotWidth * a .trace .state .used) (c .if2 .taken))
 
+mul-copy : tie.Need-mul-copy
+mul-copy c = mul-if2 (c .before .before)
+
 copy-requires : tie.Need-copy-requires
 copy-requires c κs =
     let a = c .before .before .before .before .before .before .before .args in
     (sound-filled (a .trace .state) (a .room .now) (sound-facts (a .trace .state) (a .room .now) (whole (c .before .before .before .before))) .there, c .before .before .if2 .left)
+
+same-length : tie.Need-same-length
+same-length c = search needs
 
 returns-3 : tie.Need-returns-3
 returns-3 c =
@@ -48,12 +57,4 @@ returns-3 c =
 pub numbers-spec : {M : Type 1} → statement M
 numbers-spec =
     tie.close
-    (tie.spec
-    (λ c κs. search needs)  -- sound-requires
-    returns
-    mul-if2
-    returns-2
-    (λ c. mul-if2 (c .before .before))  -- mul-copy
-    copy-requires
-    (λ c. search needs)  -- same-length
-    returns-3)
+    (tie.spec sound-requires returns mul-if2 returns-2 mul-copy copy-requires same-length returns-3)

@@ -14,6 +14,9 @@ use Rattle.row.proofs.written.Tie as tie
 whole : (c : tie.Else1) → sound (c .before .before .before .args .trace .state) (c .before .before .before .args .room .now) ≡ true
 whole c = flipped (c .before .sound .ensures) (c .if1 .left)
 
+sound-requires : tie.Need-sound-requires
+sound-requires c κs = search needs
+
 returns : tie.Need-returns
 unfolding answer writeVerdict checked
 returns c = rw (flipped (c .before .sound .ensures) (c .if1 .taken))
@@ -29,10 +32,4 @@ returns-3 c =
     rw (whole (c .before .before), le-ltb _ _ (c .if2 .left), length-slots (a .room .now) 0 (a .trace .state .used))
 
 pub written-spec : {M : Type 1} → statement M
-written-spec =
-    tie.close
-    (tie.spec
-    (λ c κs. search needs)  -- sound-requires
-    returns
-    returns-2
-    returns-3)
+written-spec = tie.close (tie.spec sound-requires returns returns-2 returns-3)

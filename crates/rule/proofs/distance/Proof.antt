@@ -26,6 +26,12 @@ cast : {a b : ℤ} → SFits w32 a → SFits w32 b → up b + down a ≤ up a + 
 cast {a} {b} fits-a fits-b h =
     (not-below (a -ℤ b) (omega (whole, difference a b, one-side (a -ℤ b))), omega (whole, abs (a -ℤ b), difference a b, one-side (a -ℤ b)))
 
+cast-d : tie.Need-cast-d
+cast-d c = widens w64 tt (c .fits .a)
+
+cast-d-2 : tie.Need-cast-d-2
+cast-d-2 c = widens w64 tt (c .fits .b)
+
 sub-d : tie.Need-sub-d
 sub-d c = rw (widened w64 tt (c .fits .a), widened w64 tt (c .fits .b)) (difference-fits w64 tt (c .fits .a) (c .fits .b))
 
@@ -58,14 +64,4 @@ unfolding distance
 returns-2 c = rw (difference-held w64 tt (c .before .fits .a) (c .before .fits .b))
 
 pub distance-spec : {M : Type 1} → statement M
-distance-spec =
-    tie.close
-    (tie.spec
-    (λ c. widens w64 tt (c .fits .a))  -- cast-d
-    (λ c. widens w64 tt (c .fits .b))  -- cast-d-2
-    sub-d
-    sub-result
-    cast-result
-    cast-result-2
-    returns
-    returns-2)
+distance-spec = tie.close (tie.spec cast-d cast-d-2 sub-d sub-result cast-result cast-result-2 returns returns-2)

@@ -7,6 +7,12 @@ use Rattle.rule.proofs.Signed.{middle-fits, narrowed, narrows, sum-fits
 use Rattle.rule.proofs.middle.Statement.{statement}
 use Rattle.rule.proofs.middle.Tie as tie
 
+cast-result : tie.Need-cast-result
+cast-result c = widens w64 tt (c .fits .a)
+
+cast-result-2 : tie.Need-cast-result-2
+cast-result-2 c = widens w64 tt (c .fits .b)
+
 add-result : tie.Need-add-result
 add-result c = rw (widened w64 tt (c .fits .a), widened w64 tt (c .fits .b)) (sum-fits w64 tt (c .fits .a) (c .fits .b))
 
@@ -24,12 +30,4 @@ unfolding middle
 returns c = rw (sum-held w64 tt (c .fits .a) (c .fits .b)) (narrowed w64 tt (middle-fits (c .fits .a) (c .fits .b)))
 
 pub middle-spec : {M : Type 1} → statement M
-middle-spec =
-    tie.close
-    (tie.spec
-    (λ c. widens w64 tt (c .fits .a))  -- cast-result
-    (λ c. widens w64 tt (c .fits .b))  -- cast-result-2
-    add-result
-    div-result
-    cast-result-3
-    returns)
+middle-spec = tie.close (tie.spec cast-result cast-result-2 add-result div-result cast-result-3 returns)

@@ -19,6 +19,9 @@ use Rattle.saved.proofs.save.Tie as tie
 whole : (c : tie.Else1) → sound (c .before .before .before .before .args .trace .state) (c .before .before .before .before .args .room .now) ≡ true
 whole c = flipped (c .before .sound .ensures) (c .if1 .left)
 
+sound-requires : tie.Need-sound-requires
+sound-requires c κs = search needs
+
 returns : tie.Need-returns
 unfolding writeVerdict checked wrote
 returns c = rw (flipped (c .before .sound .ensures) (c .if1 .taken))
@@ -40,6 +43,9 @@ save-slots-requires c κs =
     let a = c .before .before .before .before .before .before .before .args in
     (sound-filled (a .trace .state) (a .room .now) (sound-facts (a .trace .state) (a .room .now) (whole (c .before .before .before))), c .before .if2 .left)
 
+same-length : tie.Need-same-length
+same-length c = search needs
+
 returns-3 : tie.Need-returns-3
 returns-3 c =
     let a = c .before .before .before .before .before .before .before .before .before .before .args in
@@ -48,11 +54,4 @@ returns-3 c =
 pub save-spec : {M : Type 1} → statement M
 save-spec =
     tie.close
-    (tie.spec
-    (λ c κs. search needs)  -- sound-requires
-    returns
-    mul-if2
-    returns-2
-    save-slots-requires
-    (λ c. search needs)  -- same-length
-    returns-3)
+    (tie.spec sound-requires returns mul-if2 returns-2 save-slots-requires same-length returns-3)

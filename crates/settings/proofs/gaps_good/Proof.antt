@@ -5,6 +5,12 @@ use borrow.Author.Needs.{needs}
 use Rattle.settings.proofs.gaps_good.Statement.{statement}
 use Rattle.settings.proofs.gaps_good.Tie as tie
 
+enum-told : tie.Need-enum-told
+enum-told c = search needs
+
+enum-told-2 : tie.Need-enum-told-2
+enum-told-2 c = search needs
+
 returns : tie.Need-returns
 unfolding gapsGood
 returns c = rw (c .enum-told .given .1)
@@ -18,11 +24,4 @@ unfolding gapsGood gapsBounded
 returns-3 c = rw (c .before .enum-told2 .given .1, lt-leb 1 (c .before .before .before .args .gaps) (c .if1 .left))
 
 pub gaps-good-spec : {M : Type 1} → statement M
-gaps-good-spec =
-    tie.close
-    (tie.spec
-    (λ c. search needs)  -- enum-told
-    (λ c. search needs)  -- enum-told-2
-    returns
-    returns-2
-    returns-3)
+gaps-good-spec = tie.close (tie.spec enum-told enum-told-2 returns returns-2 returns-3)

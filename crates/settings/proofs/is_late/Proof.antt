@@ -4,6 +4,12 @@ use borrow.Author.Needs.{needs}
 use Rattle.settings.proofs.is_late.Statement.{statement}
 use Rattle.settings.proofs.is_late.Tie as tie
 
+enum-told : tie.Need-enum-told
+enum-told c = search needs
+
+enum-told-2 : tie.Need-enum-told-2
+enum-told-2 c = search needs
+
 returns : tie.Need-returns
 unfolding late
 returns c = rw (c .enum-told .given .1)
@@ -13,10 +19,4 @@ unfolding late
 returns-2 c = rw (c .enum-told2 .given .1)
 
 pub is-late-spec : {M : Type 1} → statement M
-is-late-spec =
-    tie.close
-    (tie.spec
-    (λ c. search needs)  -- enum-told
-    (λ c. search needs)  -- enum-told-2
-    returns
-    returns-2)
+is-late-spec = tie.close (tie.spec enum-told enum-told-2 returns returns-2)

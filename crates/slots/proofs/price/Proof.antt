@@ -5,6 +5,15 @@ use Rattle.slots.specs.Slots.{costOf}
 use Rattle.slots.proofs.price.Statement.{statement}
 use Rattle.slots.proofs.price.Tie as tie
 
+neighbours-requires : tie.Need-neighbours-requires
+neighbours-requires c κs = search needs
+
+union-spread-requires : tie.Need-union-spread-requires
+union-spread-requires c κs = search needs
+
+cast-result : tie.Need-cast-result
+cast-result c = search needs
+
 returns : tie.Need-returns
 unfolding costOf choice
 returns c = rw (← c .before .before .neighbours .ensures, c .before .if1 .taken) (c .union-spread .ensures)
@@ -15,10 +24,4 @@ returns-2 c = rw (← c .before .neighbours .ensures, c .if1 .left)
 
 pub price-spec : {M : Type 1} → statement M
 price-spec =
-    tie.close
-    (tie.spec
-    (λ c κs. search needs)  -- neighbours-requires
-    (λ c κs. search needs)  -- union-spread-requires
-    (λ c. search needs)  -- cast-result
-    returns
-    returns-2)
+    tie.close (tie.spec neighbours-requires union-spread-requires cast-result returns returns-2)

@@ -5,6 +5,18 @@ use Rattle.rule.specs.Calls.{grown}
 use Rattle.tally.proofs.grown.Statement.{statement}
 use Rattle.tally.proofs.grown.Tie as tie
 
+sub-left : tie.Need-sub-left
+sub-left c = search needs
+
+cast-if1 : tie.Need-cast-if1
+cast-if1 c = search needs
+
+cast-result : tie.Need-cast-result
+cast-result c = search needs
+
+add-result : tie.Need-add-result
+add-result c = search needs
+
 returns : tie.Need-returns
 unfolding grown
 returns c = omega (arith, c .if1 .taken)
@@ -14,12 +26,4 @@ unfolding grown
 returns-2 c = omega (arith, c .if1 .left, c .before .fits .count)
 
 pub grown-spec : {M : Type 1} → statement M
-grown-spec =
-    tie.close
-    (tie.spec
-    (λ c. search needs)  -- sub-left
-    (λ c. search needs)  -- cast-if1
-    (λ c. search needs)  -- cast-result
-    (λ c. search needs)  -- add-result
-    returns
-    returns-2)
+grown-spec = tie.close (tie.spec sub-left cast-if1 cast-result add-result returns returns-2)

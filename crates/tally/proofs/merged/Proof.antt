@@ -5,6 +5,15 @@ use Rattle.rule.specs.Calls.{grown}
 use Rattle.tally.proofs.merged.Statement.{statement}
 use Rattle.tally.proofs.merged.Tie as tie
 
+grown-requires : tie.Need-grown-requires
+grown-requires c κs = search needs
+
+grown-requires-2 : tie.Need-grown-requires-2
+grown-requires-2 c κs = search needs
+
+grown-requires-3 : tie.Need-grown-requires-3
+grown-requires-3 c κs = search needs
+
 returns : tie.Need-returns
 unfolding grown
 returns c = omega (arith, c .grown .ensures, c .before .if1 .taken)
@@ -15,10 +24,4 @@ returns-2 c = omega (arith, c .grown3 .ensures, c .before .grown2 .ensures, c .b
 
 pub merged-spec : {M : Type 1} → statement M
 merged-spec =
-    tie.close
-    (tie.spec
-    (λ c κs. search needs)  -- grown-requires
-    (λ c κs. search needs)  -- grown-requires-2
-    (λ c κs. search needs)  -- grown-requires-3
-    returns
-    returns-2)
+    tie.close (tie.spec grown-requires grown-requires-2 grown-requires-3 returns returns-2)

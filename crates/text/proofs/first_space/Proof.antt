@@ -15,10 +15,22 @@ Inv-loop s i₀ i = (i ≤ length s) × (i + firstSpace (drop i s) ≡ firstSpac
 abbrev μ-loop : tie.MeasureT-loop
 μ-loop s i₀ i = length s - i
 
+loop-holds : tie.Need-loop-holds Inv-loop μ-loop
+loop-holds c = omega arith
+
+shared-slice-read-if1 : tie.Need-shared-slice-read-if1 Inv-loop μ-loop
+shared-slice-read-if1 c = omega arith
+
 returns : tie.Need-returns Inv-loop μ-loop
 returns c =
     omega
     (arith, space-here (now (c .before .before .before .before .args .s)) (c .before .before .before .loop .i) (c .before .before .loop-test .taken) (c .if1 .taken))
+
+add-i : tie.Need-add-i Inv-loop μ-loop
+add-i c = omega arith
+
+loop-less : tie.Need-loop-less Inv-loop μ-loop
+loop-less c = omega arith
 
 loop-again : tie.Need-loop-again Inv-loop μ-loop
 loop-again c =
@@ -31,13 +43,4 @@ returns-2 c = omega (arith, space-none (now (c .before .before .args .s)) (c .be
 pub first-space-spec : {M : Type 1} → statement M
 first-space-spec =
     tie.close
-    (tie.spec
-    Inv-loop
-    μ-loop
-    (λ c. omega arith)  -- loop-holds
-    (λ c. omega arith)  -- shared-slice-read-if1
-    returns
-    (λ c. omega arith)  -- add-i
-    (λ c. omega arith)  -- loop-less
-    loop-again
-    returns-2)
+    (tie.spec Inv-loop μ-loop loop-holds shared-slice-read-if1 returns add-i loop-less loop-again returns-2)

@@ -16,6 +16,12 @@ use Rattle.text.proofs.signed_field.Tie as tie
 inside : (c : tie.Else2) → signed (c .before .before .before .n .given .0 .0) ≡ true
 inside c = in-range (negℤ (pos half)) (pos half) (c .before .before .before .n .given .0 .0) (c .before .before .known-told .given .0 .1) (c .before .if1 .left) (c .if2 .left)
 
+enum-known-n : tie.Need-enum-known-n
+enum-known-n c = search needs
+
+enum-told : tie.Need-enum-told
+enum-told c = search needs
+
 returns : tie.Need-returns
 unfolding signedField
 returns c = rw (c .enum-told .given .1)
@@ -42,13 +48,4 @@ returns-4 c =
     rw (c .before .before .before .n .given .1, inside c, read w64 z (c .before .before .known-told .given .0 .1), toZ-ofZ (signed-fits z (inside c)))
 
 pub signed-field-spec : {M : Type 1} → statement M
-signed-field-spec =
-    tie.close
-    (tie.spec
-    (λ c. search needs)  -- enum-known-n
-    (λ c. search needs)  -- enum-told
-    returns
-    returns-2
-    returns-3
-    cast-t4
-    returns-4)
+signed-field-spec = tie.close (tie.spec enum-known-n enum-told returns returns-2 returns-3 cast-t4 returns-4)

@@ -6,6 +6,12 @@ use Rattle.rule.proofs.Signed.{read}
 use Rattle.trace.proofs.found_in.Statement.{statement}
 use Rattle.trace.proofs.found_in.Tie as tie
 
+level-requires : tie.Need-level-requires
+level-requires c κs = search needs
+
+error-requires : tie.Need-error-requires
+error-requires c κs = search needs
+
 returns : tie.Need-returns
 unfolding found
 returns c =
@@ -15,9 +21,4 @@ returns c =
     rw (read w32 (level .result) (level .ok), level .ensures, c .before .error .ensures) (simp (read w32 (b .least) (told .0 .1), read w32 (b .largest) (told .1 .0 .1)))
 
 pub found-in-spec : {M : Type 1} → statement M
-found-in-spec =
-    tie.close
-    (tie.spec
-    (λ c κs. search needs)  -- level-requires
-    (λ c κs. search needs)  -- error-requires
-    returns)
+found-in-spec = tie.close (tie.spec level-requires error-requires returns)

@@ -13,6 +13,9 @@ use Rattle.worst.proofs.worst.Tie as tie
 whole : (c : tie.Else1) → sound (c .before .before .before .args .trace .state) (c .before .before .before .args .room .now) ≡ true
 whole c = flipped (c .before .sound .ensures) (c .if1 .left)
 
+sound-requires : tie.Need-sound-requires
+sound-requires c κs = search needs
+
 returns : tie.Need-returns
 unfolding worstOutcome measured checked
 returns c = rw (flipped (c .before .sound .ensures) (c .if1 .taken))
@@ -27,10 +30,4 @@ unfolding worstOutcome measured checked
 returns-2 c = rw (whole (c .before), c .greatest-error .ensures)
 
 pub worst-spec : {M : Type 1} → statement M
-worst-spec =
-    tie.close
-    (tie.spec
-    (λ c κs. search needs)  -- sound-requires
-    returns
-    greatest-error-requires
-    returns-2)
+worst-spec = tie.close (tie.spec sound-requires returns greatest-error-requires returns-2)

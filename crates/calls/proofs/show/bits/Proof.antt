@@ -6,9 +6,6 @@ use Rattle.rule.proofs.Signed.{straight-casts, turned-casts, turned-fits}
 use Rattle.calls.proofs.show.bits.Statement.{statement}
 use Rattle.calls.proofs.show.bits.Tie as tie
 
-sub-result : tie.Need-sub-result
-sub-result c = let f = c .before .fits .number in rw (toZ-ofZ f) (turned-fits _ f)
-
 cast-result : tie.Need-cast-result
 cast-result c =
     let f = c .before .fits .number in
@@ -22,11 +19,13 @@ sub-result-2 c =
 cast-result-2 : tie.Need-cast-result-2
 cast-result-2 c = let f = c .before .fits .number in rw (toZ-ofZ f) (straight-casts _ f (rw (toZ-ofZ f) at (c .if1 .left)))
 
-returns : tie.Need-returns
-returns c = search needs
-
-returns-2 : tie.Need-returns-2
-returns-2 c = search needs
-
 pub bits-spec : {M : Type 1} → statement M
-bits-spec = tie.close (tie.spec sub-result cast-result sub-result-2 cast-result-2 returns returns-2)
+bits-spec =
+    tie.close
+    (tie.spec
+    (λ c. let f = c .before .fits .number in rw (toZ-ofZ f) (turned-fits _ f))  -- sub-result
+    cast-result
+    sub-result-2
+    cast-result-2
+    (λ c. search needs)  -- returns
+    (λ c. search needs))  -- returns-2

@@ -11,53 +11,20 @@ Inv-loop name numbers sum₀ i₀ sum i = i ≤ length numbers
 abbrev μ-loop : tie.MeasureT-loop
 μ-loop name numbers sum₀ i₀ sum i = length numbers - i
 
-loop-holds : tie.Need-loop-holds Inv-loop μ-loop
-loop-holds c = search needs
-
-mul-bits : tie.Need-mul-bits Inv-loop μ-loop
-mul-bits c = search needs
-
-shared-slice-copy-out-bits : tie.Need-shared-slice-copy-out-bits Inv-loop μ-loop
-shared-slice-copy-out-bits c = search needs
-
-bits-requires : tie.Need-bits-requires Inv-loop μ-loop
-bits-requires c κs = search needs
-
-mixed-requires : tie.Need-mixed-requires Inv-loop μ-loop
-mixed-requires c κs = search needs
-
-add-i : tie.Need-add-i Inv-loop μ-loop
-add-i c = search needs
-
-loop-less : tie.Need-loop-less Inv-loop μ-loop
-loop-less c = search needs
-
-loop-again : tie.Need-loop-again Inv-loop μ-loop
-loop-again c = search needs
-
-text-requires : tie.Need-text-requires Inv-loop μ-loop
-text-requires c κs = search needs
-
-print-hex-requires : tie.Need-print-hex-requires Inv-loop μ-loop
-print-hex-requires c κs = search needs
-
-returns : tie.Need-returns Inv-loop μ-loop
-returns c = search needs
-
 pub numbers-spec : {M : Type 1} → statement M
 numbers-spec =
     tie.close
     (tie.spec
     Inv-loop
     μ-loop
-    loop-holds
-    mul-bits
-    shared-slice-copy-out-bits
-    bits-requires
-    mixed-requires
-    add-i
-    loop-less
-    loop-again
-    text-requires
-    print-hex-requires
-    returns)
+    (λ c. search needs)  -- loop-holds
+    (λ c. search needs)  -- mul-bits
+    (λ c. search needs)  -- shared-slice-copy-out-bits
+    (λ c κs. search needs)  -- bits-requires
+    (λ c κs. search needs)  -- mixed-requires
+    (λ c. search needs)  -- add-i
+    (λ c. search needs)  -- loop-less
+    (λ c. search needs)  -- loop-again
+    (λ c κs. search needs)  -- text-requires
+    (λ c κs. search needs)  -- print-hex-requires
+    (λ c. search needs))  -- returns

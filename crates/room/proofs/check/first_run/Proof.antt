@@ -15,6 +15,9 @@ returns : tie.Need-returns
 unfolding slots runs runsAfter
 returns c = (rw (c .if1 .taken), search needs)
 
+shared-slice-copy-out-if2 : tie.Need-shared-slice-copy-out-if2
+shared-slice-copy-out-if2 c = search needs
+
 returns-2 : tie.Need-returns-2
 unfolding slot
 returns-2 c =
@@ -30,10 +33,4 @@ returns-3 c =
     (rw (runs-counted (a .room .now) (a .used) (c .before .before .if1 .left), ne-eqb 0 (slot (a .room .now) 0 .start) start), search needs)
 
 pub first-run-spec : {M : Type 1} → statement M
-first-run-spec =
-    tie.close
-    (tie.spec
-    returns
-    (λ c. search needs)  -- shared-slice-copy-out-if2
-    returns-2
-    returns-3)
+first-run-spec = tie.close (tie.spec returns shared-slice-copy-out-if2 returns-2 returns-3)

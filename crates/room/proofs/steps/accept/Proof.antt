@@ -27,6 +27,9 @@ settle-requires c κs =
     rw (add-one (g .s .used), c .before .before .before .before .insert .ensures, toZ-ofZ (a .fits .value))
     (can-settle (g .s) (g .room .now) (g .at) (g .runs) (g .tick) (g .value) (a .pre) (a .fits .value) (a .fits .tick .fits))
 
+same-length : tie.Need-same-length
+same-length c = search needs
+
 returns : tie.Need-returns
 returns c =
     let a = c .before .before .before .before .before .before .before .before in
@@ -38,11 +41,4 @@ returns c =
     )
 
 pub accept-spec : {M : Type 1} → statement M
-accept-spec =
-    tie.close
-    (tie.spec
-    insert-requires
-    add-settle
-    settle-requires
-    (λ c. search needs)  -- same-length
-    returns)
+accept-spec = tie.close (tie.spec insert-requires add-settle settle-requires same-length returns)

@@ -6,6 +6,9 @@ use Rattle.rule.proofs.Signed.{read}
 use Rattle.rule.proofs.Bucket.level.Statement.{statement}
 use Rattle.rule.proofs.Bucket.level.Tie as tie
 
+middle-requires : tie.Need-middle-requires
+middle-requires c κs = search needs
+
 returns : tie.Need-returns
 returns c =
     let b = c .before .before .before .args .self in
@@ -14,8 +17,4 @@ returns c =
     ∙ rw (read w32 (b .least) (told .0 .1), read w32 (b .largest) (told .1 .0 .1)) at (c .middle .ensures)
 
 pub level-spec : {M : Type 1} → statement M
-level-spec =
-    tie.close
-    (tie.spec
-    (λ c κs. search needs)  -- middle-requires
-    returns)
+level-spec = tie.close (tie.spec middle-requires returns)

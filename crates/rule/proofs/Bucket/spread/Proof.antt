@@ -5,6 +5,9 @@ use Rattle.rule.proofs.Signed.{read}
 use Rattle.rule.proofs.Bucket.spread.Statement.{statement}
 use Rattle.rule.proofs.Bucket.spread.Tie as tie
 
+distance-requires : tie.Need-distance-requires
+distance-requires c κs = search needs
+
 returns : tie.Need-returns
 returns c =
     let b = c .before .before .before .args .self in
@@ -12,8 +15,4 @@ returns c =
     rw (read w32 (b .largest) (told .1 .0 .1), read w32 (b .least) (told .0 .1)) at (c .distance .ensures)
 
 pub spread-spec : {M : Type 1} → statement M
-spread-spec =
-    tie.close
-    (tie.spec
-    (λ c κs. search needs)  -- distance-requires
-    returns)
+spread-spec = tie.close (tie.spec distance-requires returns)

@@ -5,6 +5,15 @@ use Rattle.rule.proofs.Signed.{read}
 use Rattle.rule.proofs.Bucket.union.Statement.{statement}
 use Rattle.rule.proofs.Bucket.union.Tie as tie
 
+add-t3 : tie.Need-add-t3
+add-t3 c = search needs
+
+lesser-requires : tie.Need-lesser-requires
+lesser-requires c κs = search needs
+
+larger-requires : tie.Need-larger-requires
+larger-requires c κs = search needs
+
 returns : tie.Need-returns
 returns c =
     let least = c .before .before .before .lesser in
@@ -23,10 +32,4 @@ returns c =
     )
 
 pub union-spec : {M : Type 1} → statement M
-union-spec =
-    tie.close
-    (tie.spec
-    (λ c. search needs)  -- add-t3
-    (λ c κs. search needs)  -- lesser-requires
-    (λ c κs. search needs)  -- larger-requires
-    returns)
+union-spec = tie.close (tie.spec add-t3 lesser-requires larger-requires returns)

@@ -5,6 +5,15 @@ use Rattle.rule.proofs.Signed.{read}
 use Rattle.rule.proofs.Bucket.union_spread.Statement.{statement}
 use Rattle.rule.proofs.Bucket.union_spread.Tie as tie
 
+larger-requires : tie.Need-larger-requires
+larger-requires c κs = search needs
+
+lesser-requires : tie.Need-lesser-requires
+lesser-requires c κs = search needs
+
+distance-requires : tie.Need-distance-requires
+distance-requires c κs = search needs
+
 returns : tie.Need-returns
 returns c =
     let least = c .before .lesser in
@@ -25,10 +34,4 @@ returns c =
     )
 
 pub union-spread-spec : {M : Type 1} → statement M
-union-spread-spec =
-    tie.close
-    (tie.spec
-    (λ c κs. search needs)  -- larger-requires
-    (λ c κs. search needs)  -- lesser-requires
-    (λ c κs. search needs)  -- distance-requires
-    returns)
+union-spread-spec = tie.close (tie.spec larger-requires lesser-requires distance-requires returns)

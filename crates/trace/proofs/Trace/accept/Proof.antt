@@ -8,11 +8,17 @@ use Rattle.room.proofs.Taking.{taken-state}
 use Rattle.trace.proofs.Trace.accept.Statement.{statement}
 use Rattle.trace.proofs.Trace.accept.Tie as tie
 
+accept-requires : tie.Need-accept-requires
+accept-requires c κs = rw (toZ-ofZ (c .before .before .before .fits .value)) (c .before .before .before .pre)
+
 add-t13 : tie.Need-add-t13
 add-t13 c =
     let a = c .before .before .before .before .before .before in
     let f = sound-facts (a .args .self .state) (a .args .room .now) (a .pre .fit) in
     omega (arith, f .true-readings, sound-readings (a .args .self .state) (a .args .room .now) f)
+
+same-length : tie.Need-same-length
+same-length c = search needs
 
 returns : tie.Need-returns
 returns c =
@@ -22,10 +28,4 @@ returns c =
     (rw (w .0) (sym (taken-state (g .self .state) (g .room .now) (g .at) (g .runs) (g .tick) (g .value) (a .pre) (a .fits .value) (a .fits .tick .fits))), w .1)
 
 pub accept-spec : {M : Type 1} → statement M
-accept-spec =
-    tie.close
-    (tie.spec
-    (λ c κs. rw (toZ-ofZ (c .before .before .before .fits .value)) (c .before .before .before .pre))  -- accept-requires
-    add-t13
-    (λ c. search needs)  -- same-length
-    returns)
+accept-spec = tie.close (tie.spec accept-requires add-t13 same-length returns)

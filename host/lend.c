@@ -38,7 +38,8 @@ static int within(const uint8_t *address, const uint8_t *from, size_t count)
     return (uintptr_t)address >= (uintptr_t)from && (uintptr_t)address - (uintptr_t)from < count;
 }
 
-static void touched(int number, siginfo_t *told, void *context)
+/* An emulator may enter it with a stack that is not aligned as the calling convention has it. */
+__attribute__((force_align_arg_pointer)) static void touched(int number, siginfo_t *told, void *context)
 {
     const uint8_t *address = told->si_addr;
     (void)number;

@@ -23,12 +23,12 @@ fn signed(number: i32) {
     if number < 0 {
         text(b"-");
     }
-    io::print_decimal(libc::STDOUT_FILENO, rule::distance(number, 0) as u64);
+    io::print_decimal(libc::STDOUT_FILENO, readings::distance(number, 0) as u64);
 }
 
 fn refused(refusal: Refusal) {
-    unsigned(refusal.number() as u64);
-    unsigned(refusal.place() as u64);
+    unsigned(refusal::number(refusal) as u64);
+    unsigned(refusal::place(refusal) as u64);
 }
 
 pub(crate) fn number_of(kind: Kind) -> usize {

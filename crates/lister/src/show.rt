@@ -53,6 +53,6 @@ pub fn show(f: Feeding, room: &[i64], out: &mut [u8]) -> usize
     let last = f.last;
     match last {
         Answer::Accepted(t) => listed(t, room, out),
-        Answer::Refused(r) => put_refused(out, 0, f.lines, r.number()),
+        Answer::Refused(r) => put_refused(out, 0, f.lines, refusal::number(r)),
     }
 }

@@ -141,8 +141,8 @@ fn replying(given: Fields, a: Answer) -> Reply
             state: fields_of(t.state),
         },
         Answer::Refused(r) => Reply {
-            refusal: r.number(),
-            place: r.place(),
+            refusal: refusal::number(r),
+            place: refusal::place(r),
             state: given,
         },
     }
@@ -180,8 +180,8 @@ fn showing(f: Found) -> Shown
             largest,
         },
         Found::Refused(r) => Shown {
-            refusal: r.number(),
-            place: r.place(),
+            refusal: refusal::number(r),
+            place: refusal::place(r),
             level: 0,
             error: 0,
             least: 0,
@@ -200,8 +200,8 @@ fn telling(w: Written) -> Counted
             buckets: n,
         },
         Written::Refused(r) => Counted {
-            refusal: r.number(),
-            place: r.place(),
+            refusal: refusal::number(r),
+            place: refusal::place(r),
             buckets: 0,
         },
     }
@@ -217,8 +217,8 @@ fn erring(m: Measured) -> WorstError
             error: greatest,
         },
         Measured::Refused(r) => WorstError {
-            refusal: r.number(),
-            place: r.place(),
+            refusal: refusal::number(r),
+            place: refusal::place(r),
             error: 0,
         },
     }
@@ -307,14 +307,14 @@ pub extern "C" fn ndz_row(state: Fields, room: &[i64], out: &mut [Bucket]) -> Co
 pub extern "C" fn ndz_level(bucket: Bucket) -> i32
     ensures { λ r. ⌜ r ≡ level bucket ⌝ }
 {
-    bucket.level()
+    bucket::level(bucket)
 }
 
 #[no_mangle]
 pub extern "C" fn ndz_error(bucket: Bucket) -> u32
     ensures { λ r. ⌜ r ≡ error bucket ⌝ }
 {
-    bucket.error()
+    bucket::error(bucket)
 }
 
 #[no_mangle]

@@ -67,7 +67,7 @@ pub fn put_row(out: &mut [u8], at: usize, b: Bucket) -> usize
     let least = put_number(out, count, b.count as usize, b' ');
     let largest = put_whole(out, least, b.least, b' ');
     let level = put_whole(out, largest, b.largest, b' ');
-    put_whole(out, level, b.level(), b'\n')
+    put_whole(out, level, bucket::level(b), b'\n')
 }
 
 // The last line.

@@ -125,7 +125,7 @@ pub fn first_fault(kind: Kind, file: &[u8]) -> usize
             }
             rule += 1;
         }
-        end = b.end();
+        end = bucket::end(b);
         i += 1;
     };
     bad
@@ -151,7 +151,7 @@ pub fn counts(file: &[u8]) -> Contents
         let b = read(file, i);
         runs += starts_run(end, b);
         readings += b.count as usize;
-        end = b.end();
+        end = bucket::end(b);
         i += 1;
     }
     Contents { runs, readings }

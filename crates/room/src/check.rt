@@ -91,7 +91,7 @@ pub(crate) fn scan(
         }
         runs += starts_run(end, b);
         readings += b.count as usize;
-        end = b.end();
+        end = bucket::end(b);
         i += 1;
     }
     told_runs == runs && told_readings == readings

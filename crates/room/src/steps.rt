@@ -76,7 +76,7 @@ pub fn held(room: &[i64], used: usize, at: usize, tick: u32) -> bool
     if at == 0 {
         return false;
     }
-    (tick as usize) < read(room, at - 1).end()
+    (tick as usize) < bucket::end(read(room, at - 1))
 }
 
 // How many buckets a reading of the tick touches, at the tick's place.
@@ -95,7 +95,7 @@ pub(crate) fn ends_before(room: &[i64], at: usize, tick: u32) -> bool
     if at == 0 {
         return false;
     }
-    read(room, at - 1).end() == tick as usize
+    bucket::end(read(room, at - 1)) == tick as usize
 }
 
 // The bucket at place `at` starts right after the tick.

@@ -9,4 +9,3 @@ pub mod Stores
 pub mod Fitting
 pub mod ByHand
 pub mod Determined
-pub mod OneOutcome

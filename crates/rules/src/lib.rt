@@ -27,7 +27,7 @@ pub fn meets(rule: usize, kind: Kind, end: usize, b: Bucket) -> bool
 {
     match rule {
         1 => 1 <= b.count,
-        2 => b.end() <= TICKS,
+        2 => bucket::end(b) <= TICKS,
         3 => b.least <= b.largest,
         4 => b.count != 1 || b.least == b.largest,
         5 => follows(kind, end, b),

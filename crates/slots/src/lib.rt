@@ -70,8 +70,8 @@ pub fn cheapest(room: &[i64], used: usize) -> usize
 pub(crate) fn price(a: Bucket, b: Bucket) -> u64
     ensures { λ r. ⌜ r ≡ costOf (choice 0 a b) ⌝ }
 {
-    if a.neighbours(b) {
-        a.union_spread(b) as u64
+    if bucket::neighbours(a, b) {
+        bucket::union_spread(a, b) as u64
     } else {
         ABOVE
     }

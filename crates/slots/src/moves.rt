@@ -65,6 +65,6 @@ pub fn merge(room: &mut [i64], used: usize, at: usize)
 {
     let a = read(&*room, at);
     let b = read(&*room, at + 1);
-    write(&mut *room, at, a.union(b));
+    write(&mut *room, at, bucket::union(a, b));
     close(&mut *room, SLOT * at + SLOT, SLOT * used);
 }

@@ -46,15 +46,15 @@ fn next_tick(room: &[i64], used: usize) -> usize
     if used == 0 {
         return 0;
     }
-    read(room, used - 1).end()
+    bucket::end(read(room, used - 1))
 }
 
 fn found_in(b: Bucket) -> Found
     ensures { λ r. ⌜ r ≡ found (some b) ⌝ }
 {
     Found::Level {
-        level: b.level(),
-        error: b.error(),
+        level: bucket::level(b),
+        error: bucket::error(b),
         least: b.least,
         largest: b.largest,
     }

@@ -22,7 +22,7 @@ pub fn greatest_error(room: &[i64], used: usize) -> u32
     let mut most: u32 = 0;
     let mut i = 0;
     while i < used {
-        let e = slots::read(room, i).error();
+        let e = bucket::error(slots::read(room, i));
         if most < e {
             most = e;
         }

@@ -166,37 +166,59 @@ fn begin(word: u64, given: &[u64; 12], trace: Trace, room: &mut [i64], file: &[u
 }
 
 // What hands back a trace.
-fn go_on(word: u64, given: &[u64; 12], trace: Trace, room: &mut [i64], file: &[u8]) -> Trace {
+fn go_on(word: u64, given: &[u64; 12], held: Held, room: &mut [i64], file: &[u8]) -> Trace {
+    let numbers = least(held.numbers, room.len());
+    let bytes = least(held.bytes, file.len());
     match word {
-        line::NEXT => read_on(word, given, trace, room),
-        line::LATE => read_on(word, given, trace, room),
-        line::OPEN => begin(word, given, trace, room, file),
-        line::LOAD => begin(word, given, trace, room, file),
+        line::NEXT => read_on(word, given, held.trace, &mut room[0..numbers]),
+        line::LATE => read_on(word, given, held.trace, &mut room[0..numbers]),
+        line::OPEN => begin(
+            word,
+            given,
+            held.trace,
+            &mut room[0..numbers],
+            &file[0..bytes],
+        ),
+        line::LOAD => begin(
+            word,
+            given,
+            held.trace,
+            &mut room[0..numbers],
+            &file[0..bytes],
+        ),
         line::STATE => trace_of(given),
-        _ => trace,
+        _ => held.trace,
     }
 }
 
+fn look(given: &[u64; 12], trace: Trace, room: &[i64]) {
+    show::found(trace.lookup(room, tick(given)));
+    show::numbers(b" room ", room);
+    show::text(b"\n");
+}
+
+fn save(given: &[u64; 12], trace: Trace, room: &[i64], output: &mut [u8]) {
+    let count = least(given[BYTES] as usize, output.len());
+    show::written(saved::save(trace, room, &mut output[0..count]));
+    show::numbers(b" room ", room);
+    show::bytes(b" output ", &output[0..count]);
+    show::text(b"\n");
+}
+
+fn measure(trace: Trace, room: &[i64]) {
+    show::worst(worst::worst(trace, room));
+    show::numbers(b" room ", room);
+    show::text(b"\n");
+}
+
 // A call that leaves the trace.
-fn ask(word: u64, given: &[u64; 12], trace: Trace, room: &[i64], output: &mut [u8]) {
-    if word == line::LOOKUP {
-        show::found(trace.lookup(room, tick(given)));
-        show::numbers(b" room ", room);
-        show::text(b"\n");
-        return;
-    }
-    if word == line::SAVE {
-        let count = least(given[BYTES] as usize, output.len());
-        show::written(saved::save(trace, room, &mut output[0..count]));
-        show::numbers(b" room ", room);
-        show::bytes(b" output ", &output[0..count]);
-        show::text(b"\n");
-        return;
-    }
-    if word == line::WORST {
-        show::worst(worst::worst(trace, room));
-        show::numbers(b" room ", room);
-        show::text(b"\n");
+fn ask(word: u64, given: &[u64; 12], held: Held, room: &[i64], output: &mut [u8]) {
+    let lent = &room[0..least(held.numbers, room.len())];
+    match word {
+        line::LOOKUP => look(given, held.trace, lent),
+        line::SAVE => save(given, held.trace, lent, output),
+        line::WORST => measure(held.trace, lent),
+        _ => {}
     }
 }
 
@@ -236,16 +258,9 @@ fn obey(
 ) -> Held {
     change(word, given, room, file, output);
     let mut next = lent(word, given, held);
-    let numbers = least(next.numbers, room.len());
-    let bytes = least(next.bytes, file.len());
-    ask(word, given, next.trace, &room[0..numbers], output);
-    next.trace = go_on(
-        word,
-        given,
-        next.trace,
-        &mut room[0..numbers],
-        &file[0..bytes],
-    );
+    ask(word, given, next, room, output);
+    let trace = go_on(word, given, next, room, file);
+    next.trace = trace;
     next
 }
 

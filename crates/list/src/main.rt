@@ -1,6 +1,5 @@
 // The listing program: a trace's lines from standard input, its buckets and their total to standard output, or the first refused line.
-use lister::feed;
-use lister::show;
+use showing::show;
 
 mod ending;
 
@@ -9,7 +8,7 @@ fn main() {
     let mut room = [0i64; 3076];
     let mut line = [0u8; 64];
     let mut piece = io::large_buffer();
-    let mut state = feed::begin(&mut room);
+    let mut state = reader::begin(&mut room);
     let mut more = true;
     while more {
         let got = libc::read(libc::STDIN_FILENO, &mut piece);
@@ -21,15 +20,15 @@ fn main() {
         if n == 0 {
             more = false;
         } else {
-            state = feed::piece(state, &mut room, &mut line, &piece[0..n]);
-            if feed::ended(state) {
+            state = reader::piece(state, &mut room, &mut line, &piece[0..n]);
+            if reader::ended(state) {
                 more = false;
             }
         }
     }
-    state = feed::rest(state, &mut room, &line);
+    state = reader::rest(state, &mut room, &line);
     let mut out = [0u8; 49216];
-    let n = show::show(state, &room, &mut out);
+    let n = show(state, &room, &mut out);
     let written = io::write_all(libc::STDOUT_FILENO, &out[0..n]);
-    ending::shown(feed::ended(state), written);
+    ending::shown(reader::ended(state), written);
 }

@@ -5,8 +5,8 @@ use Rattle.rule.specs.Calls.{admitted, gapsKept, isHeld, late, lateVerdict, nex
 use Rattle.rule.specs.Room.{allOf, allZero, clauses, flat, gapsBounded, gapsGood, laid, ranged, restZero, roomy, runsAllowed, slot, slotRanged, slots, sound, stepsGood, within, zeros}
 use Rattle.rule.specs.Rules.{broken, equal, faultAt, firstFalse, firstFault, follows, isWhole, ruled, rules}
 use Rattle.rule.specs.Table.{accept, cheaper, cheapest, choice, holding, holds, insert, lastEnd, limitOver, merge, mergeAt, mergeOf, readings, runs, runsAfter, settle, settleIn, worst}
-use Rattle.printing.specs.Printing.{decimal, decimalIn, line, listing, refused, row, rows, total, whole}
-use Rattle.text.specs.Reading.{digits, digitsAfter, firstSpace, isDigit, lineOf, negated, number, same, signedField, spaced, unsignedField}
+use Rattle.notation.specs.Printing.{decimal, decimalIn, line, listing, refused, row, rows, total, whole}
+use Rattle.notation.specs.Reading.{digits, digitsAfter, firstSpace, isDigit, lineOf, negated, number, same, signedField, spaced, unsignedField}
 use Rattle.trace.specs.Answers.{answer}
 use Rattle.listing.specs.Listing.{begins, begun, lines, obeyed, output, read, readAll, shown}
 use Rattle.listing.specs.ByHand.{ByHand, outputs}

@@ -21,11 +21,11 @@ use Rattle.room.proofs.Sounding.{sound-facts, used-needed}
 use Rattle.trace.specs.declared.Answer.{Answer}
 use Rattle.trace.specs.declared.Answer.the-variants.{Accepted, Refused}
 use Rattle.trace.specs.declared.Trace.{Trace}
-use Rattle.printing.specs.Signs.{lineFeed}
-use Rattle.printing.specs.Printing.{lineRoom}
-use Rattle.text.specs.declared.Line.{Line}
-use Rattle.text.specs.Reading.{lineMost, lineOf}
-use Rattle.text.proofs.Ranges.{line-ranged, too-long-line}
+use Rattle.notation.specs.Signs.{lineFeed}
+use Rattle.notation.specs.Printing.{lineRoom}
+use Rattle.notation.specs.declared.Line.{Line}
+use Rattle.notation.specs.Reading.{lineMost, lineOf}
+use Rattle.notation.proofs.Ranges.{line-ranged, too-long-line}
 use Rattle.listing.specs.declared.Feeding.{Feeding}
 use Rattle.listing.specs.declared.Stage.{Stage}
 use Rattle.listing.specs.Listing.{Standing, begun, defaultSteps, inOrder, lines, obeyed, output, read, readAll, roomSize, shown, stageAfter}

@@ -14,9 +14,9 @@ use Rattle.rule.proofs.Whole.{by-test}
 use Rattle.trace.specs.declared.Answer.{Answer}
 use Rattle.trace.specs.declared.Answer.the-variants.{Accepted, Refused}
 use Rattle.trace.specs.declared.Trace.{Trace}
-use Rattle.printing.specs.Signs.{lineFeed}
-use Rattle.text.specs.Reading.{lineMost, lineOf}
-use Rattle.text.proofs.Ranges.{line-ranged}
+use Rattle.notation.specs.Signs.{lineFeed}
+use Rattle.notation.specs.Reading.{lineMost, lineOf}
+use Rattle.notation.proofs.Ranges.{line-ranged}
 use Rattle.listing.specs.declared.Feeding.{Feeding}
 use Rattle.listing.specs.declared.Stage.{Stage}
 use Rattle.listing.specs.Listing.{defaultSteps, inOrder, roomSize}

@@ -6,7 +6,7 @@ use mathlib.Core.Bool.{true, false}
 use mathlib.Core.List.{List, [], _∷_, _++_, append-nil}
 use lib.Dec.{eqb}
 use lib.ListN.{length}
-use Rattle.printing.specs.Signs.{lineFeed}
+use Rattle.notation.specs.Signs.{lineFeed}
 use Rattle.listing.specs.Listing.{begins, lines}
 
 -- bytes with no line feed among them

@@ -23,8 +23,8 @@ use Rattle.trace.specs.declared.Answer.the-variants.{Accepted, Refused}
 use Rattle.trace.specs.Answers.{answer, answered}
 use Rattle.trace.specs.Left.{LeavesSound, LeftBy}
 use Rattle.trace.proofs.Leaving.{late-either, next-either, open-either, open-leaves}
-use Rattle.text.specs.declared.Line.{Line}
-use Rattle.text.proofs.Ranges.{Ranged}
+use Rattle.notation.specs.declared.Line.{Line}
+use Rattle.notation.proofs.Ranges.{Ranged}
 use Rattle.listing.specs.declared.Stage.{Stage}
 use Rattle.listing.specs.Listing.{obeyed, stageAfter}
 

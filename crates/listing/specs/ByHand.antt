@@ -2,7 +2,7 @@
 use Prim.Native.String.{String}
 use mathlib.Core.Path.{_≡_}
 use mathlib.Core.List.{List, [], _∷_, map}
-use Rattle.printing.specs.Signs.{ascii}
+use Rattle.notation.specs.Signs.{ascii}
 use Rattle.listing.specs.Listing.{output}
 
 unfoldable pub outputs : List (String × String)

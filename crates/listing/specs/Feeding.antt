@@ -15,9 +15,9 @@ use Rattle.rule.specs.Table.{needed}
 use Rattle.trace.specs.declared.Answer.{Answer}
 use Rattle.trace.specs.declared.Answer.the-variants.{Accepted, Refused}
 use Rattle.trace.specs.Answers.{answered}
-use Rattle.printing.specs.Printing.{lineRoom}
-use Rattle.printing.specs.Signs.{lineFeed}
-use Rattle.text.specs.Reading.{lineOf}
+use Rattle.notation.specs.Printing.{lineRoom}
+use Rattle.notation.specs.Signs.{lineFeed}
+use Rattle.notation.specs.Reading.{lineOf}
 use Rattle.listing.specs.declared.Feeding.{Feeding}
 use Rattle.listing.specs.declared.Stage.{Stage}
 use Rattle.listing.specs.Listing.{defaultSteps, inOrder, lateWith, obeyed, stageAfter}

@@ -16,10 +16,10 @@ use Rattle.rule.specs.Table.{needed}
 use Rattle.trace.specs.declared.Answer.{Answer}
 use Rattle.trace.specs.declared.Answer.the-variants.{Accepted, Refused}
 use Rattle.trace.specs.Answers.{answered}
-use Rattle.printing.specs.Signs.{lineFeed}
-use Rattle.printing.specs.Printing.{listing, refused}
-use Rattle.text.specs.declared.Line.{Line}
-use Rattle.text.specs.Reading.{lineOf}
+use Rattle.notation.specs.Signs.{lineFeed}
+use Rattle.notation.specs.Printing.{listing, refused}
+use Rattle.notation.specs.declared.Line.{Line}
+use Rattle.notation.specs.Reading.{lineOf}
 use Rattle.listing.specs.declared.Stage.{Stage}
 
 -- ---- the lines of an input

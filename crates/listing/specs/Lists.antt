@@ -8,8 +8,8 @@ use Rattle.rule.specs.declared.Kind.the-variants.{InOrder}
 use Rattle.rule.specs.Calls.{opened}
 use Rattle.rule.specs.Room.{zeros}
 use Rattle.trace.specs.Answers.{answered}
-use Rattle.printing.specs.Printing.{lineRoom}
-use Rattle.text.specs.Reading.{lineMost}
+use Rattle.notation.specs.Printing.{lineRoom}
+use Rattle.notation.specs.Reading.{lineMost}
 use Rattle.listing.specs.declared.Feeding.{Feeding}
 use Rattle.listing.specs.declared.Stage.{Stage}
 use Rattle.listing.specs.Listing.{begun, output, roomSize, shown}

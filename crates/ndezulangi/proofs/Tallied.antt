@@ -51,13 +51,12 @@ use Rattle.rule.proofs.Tally as T
 use Rattle.rule.proofs.Tally.Laws as T′
 use Rattle.trace.specs.declared.Trace.{Trace}
 use Rattle.trace.specs.declared.Answer.{Answer}
-use Rattle.trace.specs.Answers.{answered}
+use Rattle.trace.specs.Answers.{answered, verdict}
 use Rattle.trace.proofs.Trace as Tr
 use Rattle.trace.proofs.Trace.Laws as Tr′
 use Rattle.trace.proofs.Answer as N
 use Rattle.trace.proofs.Answer.Laws as N′
-use Rattle.tally.specs.Session.{verdict}
-use Rattle.tally.proofs.Balance.{verdict-answer}
+use Rattle.trace.proofs.Verdicts.{verdict-answer}
 use Rattle.tally.proofs.Reading.{Reading, Sits, Tick, at-tick, in-order, lent, loan, local-of, whole}
 use Rattle.tally.proofs.next as next-core
 use Rattle.tally.proofs.next.Symbol as next-def

@@ -1,4 +1,2 @@
--- Laws that belong to no one function.
-pub mod Texts
-pub mod ByHand
+-- One outcome.
 pub mod OneOutcome

@@ -1,9 +1,9 @@
-// The lines of the listing as bytes, printed from a place on. What is right stands in specs/.
+// The lines of the listing as bytes, printed from a place on, by the definitions of `notation`.
 ghost use mathlib.Core.Path.{_≡_};
 ghost use mathlib.Core.List.{[], _∷_, _++_};
 ghost use Prim.Native.Nat.{_+_, _≤_, _<_};
 ghost use lib.ListN.{length};
-ghost use Rattle.printing.specs.Printing.{Printed, decimal, lineRoom, refused, row, total, whole};
+ghost use Rattle.notation.specs.Printing.{Printed, decimal, lineRoom, refused, row, total, whole};
 use rule::Bucket;
 
 fn put_byte(out: &mut [u8], at: usize, b: u8) -> usize

@@ -21,7 +21,7 @@ use Rattle.rule.specs.Bytes.{recordsOf, saved}
 use Rattle.rule.specs.Calls.{Check, Verdict, accepted, admitted, checked, counted, fileVerdict, found, foundOf, gapsKept, grown, isHeld, kept, late, lateVerdict, loaded, loadVerdict, lookupOutcome, nextVerdict, refused, traced, writeVerdict, wrote}
 use Rattle.rule.specs.Numbers.{most, recordWidth, slotWidth, tallyMost, ticks, word}
 use Rattle.rule.specs.Files.{Finds, FirstBroken, meets}
-use Rattle.rule.specs.Room.{flat, laid, signed, gapsBounded, gapsGood, roomy, runsAllowed, sound, stepsGood, tableOf}
+use Rattle.rule.specs.Room.{laid, signed, gapsBounded, gapsGood, roomy, runsAllowed, sound, stepsGood, tableOf}
 use Rattle.rule.specs.Rules.{Fault, fault, firstFault, follows, isWhole, placeOr, ruled, whole}
 use Rattle.rule.specs.Table.{Table, accept, holding, insert, limitOver, needed, runs, single}
 use Rattle.rule.proofs.Merging.{settle-runs}
@@ -252,7 +252,6 @@ demand1 = record {
   worsts = worst-said;
   rows = λ s l out. written (λ t. t) out (writeVerdict s l (s .used) (length out)) (writeRows s l (length out) (s .used)) (writes s l (length out) (s .used));
   saves = λ s l out. written saved out (writeVerdict s l (recordWidth * s .used) (length out)) (writeRows s l (length out) (recordWidth * s .used)) (writes s l (length out) (recordWidth * s .used));
-  numbers = λ s l out. written flat out (writeVerdict s l (slotWidth * s .used) (length out)) (writeRows s l (length out) (slotWidth * s .used)) (writes s l (length out) (slotWidth * s .used));
   loads = λ g file l. answered (kept g) l (loadVerdict (kept g) file l) (openRows g l ++ fileRows g file)
       (loading g file l);
   places = λ g file l i e. eighth g file l i (sym (loaded-said g file l) ∙ e);

@@ -22,7 +22,6 @@ use Rattle.rule.specs.Files.{FirstBroken, meets}
 use Rattle.rule.specs.Room.{allOf, signed, sound, tableOf}
 use Rattle.rule.specs.Rules.{firstFault, placeOr, ruled, rules}
 use Rattle.rule.specs.Table.{accept, holding, nextTick, runs}
-use Rattle.row.specs.Parts.{numbersOutcome}
 use Rattle.worst.specs.declared.Measured.{Measured}
 use Rattle.worst.specs.Outcome.{worstOutcome}
 
@@ -148,8 +147,6 @@ pub record Demand1 : Type 0 where
   pub lookups : (s : State) (l : List ℤ) (tick : ℕ) → saidFound (lookupOutcome s l tick) ≡ firstOf (lookupRows s l tick)
   pub worsts : (s : State) (l : List ℤ) → saidMeasured (worstOutcome s l) ≡ firstOf (worstRows s l)
   pub rows : (s : State) (l : List ℤ) (out : List Bucket) → let o = rowOutcome s l out in Answered (saidWritten (o .0)) (writeRows s l (length out) (s .used)) out (o .1)
-  -- the row in numbers, four to a bucket
-  pub numbers : (s : State) (l : List ℤ) (out : List ℤ) → let o = numbersOutcome s l out in Answered (saidWritten (o .0)) (writeRows s l (length out) (4 * s .used)) out (o .1)
   pub saves : (s : State) (l : List ℤ) (out : List ℕ) → let o = saveOutcome s l out in Answered (saidWritten (o .0)) (writeRows s l (length out) (16 * s .used)) out (o .1)
   pub loads : (g : Settings) (file : List ℕ) (l : List ℤ) → let o = loaded g file l in Answered (said (o .0)) (openRows g l ++ fileRows g file) l (o .1)
   -- 8: the record at its place is the file's, it breaks a rule, and all before it meet them; and it is due wherever a record breaks one

@@ -1,5 +1,3 @@
 -- Laws that belong to no one function.
-pub mod Words
-pub mod Faults
 pub mod RoundTrip
 pub mod OneOutcome

@@ -4,17 +4,9 @@ use Rattle.rule.specs.Outcomes.{OneOutcome}
 use Rattle.rule.proofs.Determined.{both, by-result}
 use Rattle.record.proofs.read as read
 use Rattle.record.proofs.write as write
-use Rattle.record.proofs.first_fault as first-fault
-use Rattle.record.proofs.counts as counts
 
 pub read-one : OneOutcome read.ended (λ M. read.clauses)
 read-one M 𝓤 H A mem run κs a g r r′ l l′ = by-result 𝓤
 
 pub write-one : OneOutcome write.ended (λ M. write.clauses)
 write-one M 𝓤 H A mem run κs a g r r′ l l′ = both 𝓤 (λ p q. (refl, ap (λ x. (x, l .1)) (p ∙ sym q)))
-
-pub first-fault-one : OneOutcome first-fault.ended (λ M. first-fault.clauses)
-first-fault-one M 𝓤 H A mem run κs a g r r′ l l′ = by-result 𝓤
-
-pub counts-one : OneOutcome counts.ended (λ M. counts.clauses)
-counts-one M 𝓤 H A mem run κs a g r r′ l l′ = both 𝓤 (λ p q. (λ i. record { runs = (p .0 ∙ sym (q .0)) i; readings = (p .1 ∙ sym (q .1)) i }, refl))

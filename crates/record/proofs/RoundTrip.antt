@@ -16,7 +16,7 @@ use Rattle.rule.specs.Bytes.{bits, bytes, countFrom, largestFrom, leastFrom, re
 use Rattle.rule.proofs.Fitting.{Fitted, Fitting}
 use Rattle.rule.proofs.Stores.{sets-append}
 use Rattle.record.specs.Files.{put}
-use Rattle.record.proofs.Words.{bits-fit, bits-reading, reading-bits, reading-fits}
+use Rattle.words.proofs.Words.{bits-fit, bits-reading, reading-bits, reading-fits}
 
 -- ---- four bytes
 

@@ -4,14 +4,10 @@ use native.Mathlib.Omega.{arith}
 use lib.IntN.{pos}
 use Rattle.rule.specs.Outcomes.{OneOutcome}
 use Rattle.rule.proofs.Determined.{both, by-result}
-use Rattle.room.proofs.check.sound as sound
-use Rattle.room.proofs.steps.accept as accept
-use Rattle.room.proofs.steps.find as find
-use Rattle.room.proofs.steps.held as held
-use Rattle.room.proofs.steps.joins as joins
-
-pub sound-one : OneOutcome sound.ended (λ M. sound.clauses)
-sound-one M 𝓤 H A mem run κs a g r r′ l l′ = by-result 𝓤
+use Rattle.room.proofs.accept as accept
+use Rattle.room.proofs.find as find
+use Rattle.room.proofs.held as held
+use Rattle.room.proofs.joins as joins
 
 pub accept-one : OneOutcome accept.ended (λ M. accept.clauses)
 accept-one M 𝓤 H A mem run κs a g r r′ l l′ = both 𝓤 (λ p q. (p .0 ∙ sym (q .0), ap (λ x. (l .0, (x, l .1 .1))) (p .1 ∙ sym (q .1))))

@@ -1,25 +1,24 @@
 -- The row as the loop writes it, one place after the other, and what the answer says of the trace.
 use Prim.Native.Nat.{ℕ, suc, _+_, _*_, _≤_, _<_}
-use mathlib.Core.Path.{_≡_, refl, sym, ap, _∙_}
+use mathlib.Core.Path.{_≡_, refl, sym, _∙_}
 use mathlib.Core.Bool.{true}
 use mathlib.Core.List.{List, _++_}
 use native.Mathlib.Omega.{arith}
-use borrow.Author.Tests.{le-ltb, ltb-false, not-false}
+use borrow.Author.Tests.{ltb-false, not-false}
 use lib.IntN.{ℤ}
-use lib.ListN.{length, take, drop, getD, set, length-append, length-drop}
-use lib.Seq.{append-snoc, drop-cons, set-at, take-at}
+use lib.ListN.{length, drop, getD, set, length-append, length-drop}
+use lib.Seq.{append-snoc, drop-cons, set-at}
 use Rattle.rule.specs.declared.Refusal.{Refusal}
 use Rattle.rule.specs.declared.State.{State}
-use Rattle.rule.specs.declared.Written.{Written}
 use Rattle.rule.specs.Numbers.{slotWidth}
-use Rattle.rule.specs.Calls.{Verdict, accepted, checked, refused, rowOutcome, writeVerdict, wrote}
-use Rattle.rule.specs.Room.{flat, slot, slotRanged, slots, sound, tableOf}
+use Rattle.rule.specs.Calls.{Verdict, accepted, refused, rowOutcome, writeVerdict, wrote}
+use Rattle.rule.specs.Room.{slot, slotRanged, slots, sound, tableOf}
 use Rattle.rule.specs.Table.{Table}
-use Rattle.slots.proofs.Laying.{flat-slots, length-flat, length-slots, slots-split}
+use Rattle.slots.proofs.Laying.{length-slots, slots-split}
 use Rattle.slots.proofs.Reading.{filled}
-use Rattle.settings.proofs.Granting.{Unrefused, past-checks}
+use Rattle.admission.proofs.Granting.{Unrefused, past-checks}
 use Rattle.room.proofs.Sounding.{sound-facts, sound-filled}
-use Rattle.row.specs.Parts.{answer, number, numbersOutcome, rowAnswer, upTo}
+use Rattle.row.specs.Answers.{answer, number, rowAnswer, upTo}
 
 pub none-yet : (l : List ℤ) (out : Table) → out ≡ upTo l 0 out
 unfolding slots
@@ -57,12 +56,3 @@ module _ (s : State) (l : List ℤ) where
   pub all-written : (out : Table) → let a = rowAnswer s l (length out) in (a, upTo l (number a) out) ≡ rowOutcome s l out
   unfolding answer number wrote slots
   all-written out = write-either (s .used) (length out) (λ v. (answer v, upTo l (number (answer v)) out) ≡ wrote (λ t. t) out v) (λ r. refl) (λ e h. rw (length-slots l 0 (s .used)))
-
-  -- the used numbers of a sound room are the buckets' own
-  pub numbers-written : (out : List ℤ) → sound s l ≡ true → slotWidth * s .used ≤ length out → numbersOutcome s l out ≡ (Written.Buckets (s .used), take (slotWidth * s .used) l ++ drop (slotWidth * s .used) out)
-  unfolding writeVerdict checked wrote
-  numbers-written out e h =
-      let f = sound-filled s l (sound-facts s l e) in
-      let long : length (flat (tableOf s l)) ≡ slotWidth * s .used = length-flat (tableOf s l) ∙ ap (λ (n : ℕ). slotWidth * n) (length-slots l 0 (s .used)) in
-      let front : take (slotWidth * s .used) l ≡ flat (tableOf s l) = ap (take (slotWidth * s .used)) (sym (flat-slots (s .used) l (f .there) (f .ranges))) ∙ take-at (flat (tableOf s l)) (drop (slotWidth * s .used) l) (slotWidth * s .used) long in
-      rw (e, le-ltb (length out) (slotWidth * s .used) h, front, length-slots l 0 (s .used), long)

@@ -1,2 +1,2 @@
--- What the row answers, and the row place by place.
-pub mod Parts
+-- What the row answers, and the output while it is written.
+pub mod Answers

@@ -9,7 +9,7 @@ use borrow.Author.Tests.{eqb-true, eq-eqb, ltb-false, le-ltb, not-false}
 use lib.IntN.{ℤ}
 use lib.ListN.{length, take, drop, length-append, length-drop}
 use lib.Seq.{drop-append-add, drop-drop, take-at}
-use Rattle.record.specs.declared.Contents.{Contents}
+use Rattle.faults.specs.declared.Contents.{Contents}
 use Rattle.rule.specs.declared.Bucket.{Bucket}
 use Rattle.rule.specs.declared.Kind.{Kind}
 use Rattle.rule.specs.declared.Refusal.{Refusal}
@@ -24,15 +24,15 @@ use Rattle.rule.specs.Rules.{ruled}
 use Rattle.rule.specs.Table.{Table, limit, needed, readings, runs}
 use Rattle.rule.proofs.Ruling.{Ruled, facts-ruled, ordered-readings, ruled-end, ruled-facts, ruled-ordered}
 use Rattle.record.specs.Files as files
-use Rattle.record.proofs.Faults.{length-records}
+use Rattle.faults.proofs.Faults.{length-records}
 use Rattle.record.proofs.RoundTrip.{length-saved, put-saved}
 use Rattle.slots.specs.Slots.{put}
 use Rattle.slots.proofs.Shifting.{drop-past}
 use Rattle.settings.proofs.Bounds.{limit-gaps}
 use Rattle.slots.proofs.Laying.{flat-append, length-flat, length-slots, slots-split}
-use Rattle.settings.proofs.Granting.{Granted, Unrefused, admits, past-admission, past-checks}
-use Rattle.saved.specs.declared.Inspected.{Inspected}
-use Rattle.saved.specs.Verdicts.{inspection}
+use Rattle.admission.proofs.Granting.{Granted, Unrefused, admits, past-admission, past-checks}
+use Rattle.faults.specs.declared.Inspected.{Inspected}
+use Rattle.faults.specs.Verdicts.{inspection}
 
 -- ---- saved slot by slot
 
@@ -103,12 +103,6 @@ pub record Loads (s : Settings) (file : List ℕ) : Type 0 where
   pub rules : Ruled (s .kind) 0 (recordsOf file)
   pub allowed : runsAllowed (s .kind) (s .gaps) (runs (recordsOf file)) ≡ true
   pub few : length (recordsOf file) ≤ limit s (runs (recordsOf file))
-
-pub whole-readings : (k : Kind) (t : Table) → ruled k t ≡ true → readings t ≤ ticks
-unfolding ruled
-whole-readings k t e =
-    let r = ruled-facts k 0 0 t e in
-    omega (arith, ordered-readings 0 t (ruled-ordered k 0 t r), ruled-end k 0 t (omega arith) r)
 
 module _ (s : Settings) (file : List ℕ) where
   pub file-loads : Loads s file → fileVerdict s file ≡ accepted (recordsOf file)

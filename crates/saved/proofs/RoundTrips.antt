@@ -19,7 +19,7 @@ use Rattle.rule.specs.Numbers.{recordWidth, slotWidth}
 use Rattle.rule.specs.Room.{flat, gapsGood, laid, restZero, sound, tableOf, zeros}
 use Rattle.rule.specs.Table.{Table, needed, readings, runs}
 use Rattle.rule.proofs.Ruling.{Ruled}
-use Rattle.record.proofs.Faults.{length-file}
+use Rattle.faults.proofs.Faults.{length-file}
 use Rattle.record.proofs.RoundTrip.{file-fitted, length-saved, records-saved, saved-records}
 use Rattle.slots.proofs.Fitting.{fitted-slots}
 use Rattle.slots.proofs.Laying.{flat-slots, laid-more, laid-over, length-flat, length-slots, slots-laid}
@@ -27,7 +27,7 @@ use Rattle.room.proofs.Sounding.{Facts, facts-sound, laid-facts, sound-facts, s
 use Rattle.saved.specs.Bytes.{AllBytes}
 use Rattle.trace.proofs.Leaving.{none-allowed}
 use Rattle.saved.proofs.Filing.{Loads, file-loads, load-accepts, load-leaves, save-writes}
-use Rattle.settings.proofs.Granting.{Granted}
+use Rattle.admission.proofs.Granting.{Granted}
 
 -- ---- saved, then loaded
 

@@ -1,3 +1,2 @@
--- The answer of load's inner check as code has it, and what a file is.
-pub mod Verdicts
+-- What a file is.
 pub mod Bytes

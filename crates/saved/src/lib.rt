@@ -1,40 +1,29 @@
 // A trace saved and loaded: the two calls, which ask nothing of their caller, and the inner loops that write one record or one slot after the other.
 ghost use mathlib.Core.Path.{_≡_};
-ghost use mathlib.Core.Bool.{true};
 ghost use mathlib.Core.List.{_++_};
 ghost use Prim.Native.Nat.{_*_, _≤_};
 ghost use lib.ListN.{length, drop};
 ghost use Rattle.rule.specs.Numbers.{recordWidth, slotWidth};
 ghost use Rattle.rule.specs.Bytes.{records, saved};
-ghost use Rattle.rule.specs.Calls.{fileVerdict, loaded, saveOutcome};
-ghost use Rattle.rule.specs.Room.{flat, gapsGood, slots, stepsGood};
+ghost use Rattle.rule.specs.Calls.{loaded, saveOutcome};
+ghost use Rattle.rule.specs.Room.{flat, slots};
 ghost use Rattle.slots.specs.Slots.{Filled};
 ghost use Rattle.trace.specs.Answers.{answered};
-ghost use Rattle.saved.specs.Verdicts.{inspection};
-use record::Contents;
-use record::counts;
-use record::first_fault;
-use room::check::sound;
+use admission::Admitted;
+use admission::admit;
+use faults::Inspected;
+use faults::inspect;
+use moves::clear;
 use rule::RECORD;
 use rule::Refusal;
 use rule::SLOT;
 use rule::Settings;
 use rule::State;
 use rule::Written;
-use settings::Admitted;
-use settings::admit;
 use settings::kept;
-use settings::limit;
-use settings::runs_allowed;
-use slots::moves::clear;
+use sound::sound;
 use trace::Answer;
 use trace::Trace;
-
-// The runs and readings of a file that loads, or the refusal.
-pub(crate) enum Inspected {
-    Counts(Contents),
-    Refused(Refusal),
-}
 
 // The buckets of the first `used` slots become the first records.
 fn save_slots(room: &[i64], used: usize, out: &mut [u8])
@@ -58,30 +47,6 @@ fn load_slots(file: &[u8], count: usize, room: &mut [i64])
         slots::write(&mut *room, i, record::read(file, i));
         i += 1;
     }
-}
-
-// Refusals 7, 8, 9 and 10: all that a file can be refused for is known before a slot is written.
-fn inspect(s: Settings, file: &[u8]) -> Inspected
-    requires { ⌜ (stepsGood s ≡ true) × (gapsGood (s .kind) (s .gaps) ≡ true) ⌝ }
-    ensures { λ r. ⌜ r ≡ inspection (fileVerdict s (now (file .entry))) ⌝ }
-{
-    if file.len() % RECORD != 0 {
-        return Inspected::Refused(Refusal::Length);
-    }
-    let kind = s.kind;
-    let count = file.len() / RECORD;
-    let place = first_fault(kind, file);
-    if place < count {
-        return Inspected::Refused(Refusal::Record(place));
-    }
-    let c = counts(file);
-    if !runs_allowed(kind, s.gaps, c.runs) {
-        return Inspected::Refused(Refusal::Runs);
-    }
-    if limit(s, c.runs) < count {
-        return Inspected::Refused(Refusal::Overfull);
-    }
-    Inspected::Counts(c)
 }
 
 // The buckets in tick order, a record each.

@@ -1,4 +1,3 @@
 -- Laws that belong to no one function.
 pub mod Bounds
-pub mod Granting
 pub mod OneOutcome

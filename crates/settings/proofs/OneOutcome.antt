@@ -11,7 +11,6 @@ use Rattle.settings.proofs.gaps_good as gaps-good
 use Rattle.settings.proofs.runs_allowed as runs-allowed
 use Rattle.settings.proofs.limit as limit
 use Rattle.settings.proofs.needed as needed
-use Rattle.settings.proofs.admit as admit
 
 pub in-order-one : OneOutcome in-order.ended (λ M. in-order.clauses)
 in-order-one M 𝓤 H A mem run κs a g r r′ l l′ = by-result 𝓤
@@ -42,6 +41,3 @@ limit-one M 𝓤 H A mem run κs a g r r′ l l′ = by-result 𝓤
 
 pub needed-one : OneOutcome needed.ended (λ M. needed.clauses)
 needed-one M 𝓤 H A mem run κs a g r r′ l l′ = by-result 𝓤
-
-pub admit-one : OneOutcome admit.ended (λ M. admit.clauses)
-admit-one M 𝓤 H A mem run κs a g r r′ l l′ = by-result 𝓤

@@ -1,16 +1,13 @@
-// What is asked of a trace's kind and settings, and of the room they need, each thing once. Nothing here but `limit` and `needed` asks anything of its caller.
+// What is asked of a trace's kind and settings, each thing once. Nothing here but `limit` and `needed` asks anything of its caller.
 ghost use mathlib.Core.Path.{_≡_};
 ghost use mathlib.Core.List.{[]};
 ghost use Prim.Native.Nat.{_<_, _^_};
 ghost use Rattle.rule.specs.declared.Kind.the-variants.{InOrder, Late};
-ghost use Rattle.rule.specs.Calls.{accepted, admitted, gapsKept, kept, late, stateOf};
+ghost use Rattle.rule.specs.Calls.{gapsKept, kept, late, stateOf};
 ghost use Rattle.rule.specs.Room.{gapsGood, runsAllowed, stepsGood};
 ghost use Rattle.rule.specs.Table.{limit, needed};
-ghost use Rattle.settings.specs.Admission.{admission};
 use rule::Kind;
 use rule::MOST;
-use rule::Refusal;
-use rule::SLOT;
 use rule::Settings;
 use rule::State;
 
@@ -124,28 +121,4 @@ pub fn needed(s: Settings) -> usize
     ensures { λ r. ⌜ r ≡ needed s ⌝ }
 {
     limit(s, s.gaps) + 1
-}
-
-// The slots that are needed, or the refusal.
-pub enum Admitted {
-    Slots(usize),
-    Refused(Refusal),
-}
-
-// Refusals 1, 2 and 3.
-pub fn admit(s: Settings, room: &[i64]) -> Admitted
-    ensures { λ r. ⌜ r ≡ admission s (admitted s (now (room .entry)) (accepted [])) ⌝ }
-{
-    if !steps_good(s) {
-        return Admitted::Refused(Refusal::Steps);
-    }
-    let kind = s.kind;
-    if !gaps_good(kind, s.gaps) {
-        return Admitted::Refused(Refusal::Gaps);
-    }
-    let slots = needed(s);
-    if room.len() < SLOT * slots {
-        return Admitted::Refused(Refusal::Room);
-    }
-    Admitted::Slots(slots)
 }

@@ -2,21 +2,9 @@
 use mathlib.Core.Path.{refl, sym, ap, _∙_}
 use Rattle.rule.specs.Outcomes.{OneOutcome}
 use Rattle.rule.proofs.Determined.{both, by-result}
-use Rattle.slots.proofs.moves.clear as clear
-use Rattle.slots.proofs.moves.insert as insert
-use Rattle.slots.proofs.moves.merge as merge
 use Rattle.slots.proofs.read as read
 use Rattle.slots.proofs.write as write
 use Rattle.slots.proofs.cheapest as cheapest
-
-pub clear-one : OneOutcome clear.ended (λ M. clear.clauses)
-clear-one M 𝓤 H A mem run κs a g r r′ l l′ = both 𝓤 (λ p q. (refl, ap (λ x. (x, l .1)) (p ∙ sym q)))
-
-pub insert-one : OneOutcome insert.ended (λ M. insert.clauses)
-insert-one M 𝓤 H A mem run κs a g r r′ l l′ = both 𝓤 (λ p q. (refl, ap (λ x. (x, l .1)) (p ∙ sym q)))
-
-pub merge-one : OneOutcome merge.ended (λ M. merge.clauses)
-merge-one M 𝓤 H A mem run κs a g r r′ l l′ = both 𝓤 (λ p q. (refl, ap (λ x. (x, l .1)) (p ∙ sym q)))
 
 pub read-one : OneOutcome read.ended (λ M. read.clauses)
 read-one M 𝓤 H A mem run κs a g r r′ l l′ = by-result 𝓤

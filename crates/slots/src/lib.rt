@@ -1,7 +1,5 @@
-// The lent numbers, four to a slot: a slot read, a slot written, the cheapest neighbours, and the moves of an insertion and a merge.
+// The lent numbers, four to a slot: a slot read, a slot written, and the cheapest neighbours.
 // Each function asks for slots that are there and hold buckets, as they are in a sound trace.
-pub mod moves;
-
 ghost use mathlib.Core.Path.{_≡_};
 ghost use mathlib.Core.Bool.{true};
 ghost use Prim.Native.Nat.{_+_, _*_, _<_, _≤_, suc};

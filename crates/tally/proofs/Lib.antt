@@ -1,4 +1,3 @@
 -- Laws that belong to no one function.
 pub mod Reading
-pub mod Balance
 pub mod OneOutcome

@@ -6,14 +6,12 @@ use lib.IntN.{ℤ}
 use Rattle.rule.specs.declared.Tally.{Tally}
 use Rattle.rule.specs.Calls.{counted as tallied}
 use Rattle.trace.specs.declared.Answer.{Answer}
-use Rattle.tally.specs.Session.{verdict}
+use Rattle.trace.specs.Answers.{verdict}
 use Rattle.rule.specs.Outcomes.{OneOutcome}
 use Rattle.rule.proofs.Determined.{both, by-result}
 use Rattle.tally.proofs.counted as counted
 use Rattle.tally.proofs.next as next
 use Rattle.tally.proofs.late as late
-use Rattle.tally.proofs.next_tallied as next-tallied
-use Rattle.tally.proofs.late_tallied as late-tallied
 
 -- a reading's answer, the room and the tally of two outcomes
 record Same (r r′ : Answer) (m m′ : List ℤ) (t t′ : Tally) : Type 0 where
@@ -35,9 +33,3 @@ next-one M 𝓤 H A mem run κs a g r r′ l l′ = both 𝓤 (λ p q. let e = s
 
 pub late-one : OneOutcome late.ended (λ M. late.clauses)
 late-one M 𝓤 H A mem run κs a g r r′ l l′ = both 𝓤 (λ p q. let e = same (a .1 .1 .1 .1 .0 .now) (a .0 .state .used) p q in (e .answer, λ i. (l .0, (e .room i, (l .1 .1 .0, (l .1 .1 .1 .0, (e .tally i, l .1 .1 .1 .1 .1)))))))
-
-pub next-tallied-one : OneOutcome next-tallied.ended (λ M. next-tallied.clauses)
-next-tallied-one M 𝓤 H A mem run κs a g r r′ l l′ = both 𝓤 (λ p q. let e = same (a .1 .1 .1 .0) (a .0 .state .used) p q in (λ i. record { answer = e .answer i; tally = e .tally i }, λ i. (l .0, (e .room i, l .1 .1))))
-
-pub late-tallied-one : OneOutcome late-tallied.ended (λ M. late-tallied.clauses)
-late-tallied-one M 𝓤 H A mem run κs a g r r′ l l′ = both 𝓤 (λ p q. let e = same (a .1 .1 .1 .1 .0) (a .0 .state .used) p q in (λ i. record { answer = e .answer i; tally = e .tally i }, λ i. (l .0, (e .room i, l .1 .1))))

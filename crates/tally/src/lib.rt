@@ -2,20 +2,13 @@
 ghost use Prim.Native.Nat.{_+_, _-_};
 ghost use mathlib.Core.Path.{_≡_};
 ghost use Rattle.rule.specs.Calls.{counted, grown, lateOutcome, nextOutcome};
-ghost use Rattle.trace.specs.Answers.{answered};
-ghost use Rattle.tally.specs.Session.{verdict};
+ghost use Rattle.trace.specs.Answers.{answered, verdict};
 use rule::Tally;
 use trace::Answer;
 use trace::Trace;
 
 // Where a count stops.
 const STOP: u32 = 4294967295;
-
-// A reading's answer, with the tally for callers who pass it by value.
-pub struct Tallied {
-    pub answer: Answer,
-    pub tally: Tally,
-}
 
 fn grown(count: u32, by: usize) -> u32
     ensures { λ r. ⌜ r ≡ grown count by ⌝ }
@@ -74,29 +67,7 @@ pub fn late(trace: Trace, room: &mut [i64], tick: u32, value: i32, tally: &mut T
 {
     let a = trace.late(&mut *room, tick, value);
     let before = *tally;
-    let after = counted(before, trace, a);
-    *tally = after;
+    let counts = counted(before, trace, a);
+    *tally = counts;
     a
-}
-
-// The same as `next`, the tally by value.
-pub fn next_tallied(trace: Trace, room: &mut [i64], value: i32, tally: Tally) -> Tallied
-    ensures { λ r. ⌜ ((r .answer, now (room .exit)) ≡ answered (nextOutcome (trace .state) (now (room .entry)) value)) × (r .tally ≡ counted tally (trace .state .used) (verdict (r .answer))) ⌝ }
-{
-    let answer = trace.next(&mut *room, value);
-    Tallied {
-        answer,
-        tally: counted(tally, trace, answer),
-    }
-}
-
-// The same as `late`, the tally by value.
-pub fn late_tallied(trace: Trace, room: &mut [i64], tick: u32, value: i32, tally: Tally) -> Tallied
-    ensures { λ r. ⌜ ((r .answer, now (room .exit)) ≡ answered (lateOutcome (trace .state) (now (room .entry)) tick value)) × (r .tally ≡ counted tally (trace .state .used) (verdict (r .answer))) ⌝ }
-{
-    let answer = trace.late(&mut *room, tick, value);
-    Tallied {
-        answer,
-        tally: counted(tally, trace, answer),
-    }
 }

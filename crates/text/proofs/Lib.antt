@@ -1,6 +1,2 @@
--- Laws that belong to no one function.
-pub mod Lines
-pub mod Back
-pub mod ByHand
+-- One outcome.
 pub mod OneOutcome
-pub mod Ranges

@@ -1,39 +1,16 @@
-// What a line of the input means, its bytes read. What is right stands in specs/.
+// What a line of the input means, its bytes read, by the definitions of `notation`.
 ghost use mathlib.Core.Path.{_≡_};
-ghost use Rattle.text.specs.Reading.{alone, digits, firstSpace, isDigit, late, lineOf, number, pair, same, signedField, spaced, steps, unsignedField};
+ghost use Rattle.notation.specs.Reading.{alone, digits, firstSpace, isDigit, late, lineOf, number, pair, same, signedField, spaced, steps, unsignedField};
+use notation::Line;
+use notation::Number;
+use notation::Signed;
+use notation::Unsigned;
 use rule::WORD;
 
 // The least signed number of 32 bits.
 const LOWEST: i64 = -2147483648;
 // A signed number of 32 bits is below this.
 const HALF: i64 = 2147483648;
-
-// What bytes stand for as a number, in any range.
-pub enum Number {
-    Whole(i64),
-    Unreadable,
-}
-
-// A tick, B or K: what an unsigned field of 32 bits holds.
-enum Unsigned {
-    Within(u32),
-    Outside,
-}
-
-// A reading: what a signed field of 32 bits holds.
-enum Signed {
-    Within(i32),
-    Outside,
-}
-
-// What a line means.
-pub enum Line {
-    Steps(u32),
-    Late(u32),
-    Alone(i32),
-    Pair(u32, i32),
-    Unreadable,
-}
 
 fn is_digit(b: u8) -> bool
     ensures { λ r. ⌜ r ≡ isDigit b ⌝ }

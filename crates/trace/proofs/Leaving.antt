@@ -21,7 +21,7 @@ use Rattle.rule.proofs.Fitting.{Fitted}
 use Rattle.rule.proofs.Ruling.{Ruled}
 use Rattle.room.specs.Steps.{position}
 use Rattle.room.proofs.Sounding.{facts-sound, laid-facts}
-use Rattle.settings.proofs.Granting.{Granted, Unrefused, past-admission, past-checks}
+use Rattle.admission.proofs.Granting.{Granted, Unrefused, past-admission, past-checks}
 use Rattle.trace.specs.Left.{LeavesSound, LeftBy}
 use Rattle.room.specs.Steps.{Ready, with}
 use Rattle.trace.proofs.Arriving.{Passed, late-ready}

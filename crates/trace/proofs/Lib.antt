@@ -3,4 +3,5 @@ pub mod Following
 pub mod Arriving
 pub mod Finding
 pub mod Leaving
+pub mod Verdicts
 pub mod OneOutcome

@@ -11,6 +11,11 @@ unfoldable pub answer : Verdict State → Answer
 answer (accepted s) = Accepted (record { state = s })
 answer (refused r) = Refused r
 
+-- the verdict that an answer is of
+unfoldable pub verdict : Answer → Verdict State
+verdict (Accepted t) = accepted (t .state)
+verdict (Refused r) = refused r
+
 -- the answer, and the room afterwards
 abbrev pub answered : Verdict State × List ℤ → Answer × List ℤ
 answered v = (answer (v .0), v .1)

@@ -7,11 +7,13 @@ ghost use Rattle.rule.specs.Table.{accept, needed, nextTick};
 ghost use Rattle.slots.specs.Slots.{Filled};
 ghost use Rattle.trace.specs.Answers.{answered};
 ghost use Rattle.room.specs.Steps.{Ready};
-use room::check::sound;
-use room::steps::accept;
-use room::steps::find;
-use room::steps::held;
-use room::steps::joins;
+use admission::Admitted;
+use admission::admit;
+use moves::clear;
+use room::accept;
+use room::find;
+use room::held;
+use room::joins;
 use rule::Bucket;
 use rule::Found;
 use rule::Refusal;
@@ -19,13 +21,11 @@ use rule::SLOT;
 use rule::Settings;
 use rule::State;
 use rule::TICKS;
-use settings::Admitted;
-use settings::admit;
 use settings::empty;
 use settings::is_late;
 use settings::kept;
-use slots::moves::clear;
 use slots::read;
+use sound::sound;
 
 // The trace's state, with its calls. Each hands the next one back.
 pub struct Trace {

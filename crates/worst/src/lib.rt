@@ -4,8 +4,8 @@ ghost use Rattle.rule.specs.Room.{slots};
 ghost use Rattle.rule.specs.Table.{worst};
 ghost use Rattle.slots.specs.Slots.{Filled};
 ghost use Rattle.worst.specs.Outcome.{worstOutcome};
-use room::check::sound;
 use rule::Refusal;
+use sound::sound;
 use trace::Trace;
 
 // What `worst` answers: the greatest error of a bucket, 0 where there is none.

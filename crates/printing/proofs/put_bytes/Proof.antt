@@ -5,7 +5,7 @@ use native.Mathlib.Omega.{arith}
 use denote.Ref.{now}
 use lib.ListN.{drop, length, length-set}
 use lib.Seq.{sets}
-use Rattle.printing.proofs.Texts.{stores-done, stores-next, stores-start}
+use Rattle.notation.proofs.Texts.{stores-done, stores-next, stores-start}
 use Rattle.printing.proofs.put_bytes.Statement.{statement}
 use Rattle.printing.proofs.put_bytes.Tie as tie
 

@@ -1,6 +1,6 @@
 -- `printing::put_number` meets its contract.
 use borrow.Author.Needs.{needs}
-use Rattle.printing.proofs.Texts.{then}
+use Rattle.notation.proofs.Texts.{then}
 use Rattle.printing.proofs.put_number.Statement.{statement}
 use Rattle.printing.proofs.put_number.Tie as tie
 

@@ -4,8 +4,8 @@ use mathlib.Core.List.{append-assoc}
 use native.Mathlib.Omega.{arith}
 use borrow.Author.Needs.{needs}
 use lib.ListN.{length, length-append}
-use Rattle.printing.specs.Printing.{decimal, line, refused}
-use Rattle.printing.proofs.Texts.{room-left, short, then}
+use Rattle.notation.specs.Printing.{decimal, line, refused}
+use Rattle.notation.proofs.Texts.{room-left, short, then}
 use Rattle.printing.proofs.put_refused.Statement.{statement}
 use Rattle.printing.proofs.put_refused.Tie as tie
 

@@ -8,9 +8,9 @@ use lib.ListN.{length}
 use mir.Syntax.{w32}
 use mir.Val.{ofZ, toZ}
 use Rattle.rule.proofs.Signed.{read}
-use Rattle.printing.specs.Signs.{space}
-use Rattle.printing.specs.Printing.{decimal, line, row, whole}
-use Rattle.printing.proofs.Texts.{field-room, short, then, whole-short}
+use Rattle.notation.specs.Signs.{space}
+use Rattle.notation.specs.Printing.{decimal, line, row, whole}
+use Rattle.notation.proofs.Texts.{field-room, short, then, whole-short}
 use Rattle.printing.proofs.put_row.Statement.{statement}
 use Rattle.printing.proofs.put_row.Tie as tie
 

@@ -12,7 +12,7 @@ use mir.Val.{SFits, ofZ, toZ}
 use mir.Facts.{fits-natAbs, toZ-ofZ}
 use Rattle.rule.proofs.Signed.{widened, widens}
 use Rattle.rule.proofs.Whole.{whole, abs, difference, one-side}
-use Rattle.printing.proofs.Texts.{below-zero, not-below-zero, then}
+use Rattle.notation.proofs.Texts.{below-zero, not-below-zero, then}
 use Rattle.printing.proofs.put_whole.Statement.{statement}
 use Rattle.printing.proofs.put_whole.Tie as tie
 

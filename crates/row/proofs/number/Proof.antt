@@ -1,6 +1,6 @@
 -- `row::number` meets its contract.
 use borrow.Author.Needs.{needs}
-use Rattle.row.specs.Parts.{number}
+use Rattle.row.specs.Answers.{number}
 use Rattle.row.proofs.number.Statement.{statement}
 use Rattle.row.proofs.number.Tie as tie
 

@@ -66,7 +66,7 @@ use Rattle.slots.proofs.read.Met as read-thm
 use Rattle.trace.specs.declared.Trace.{Trace}
 use Rattle.trace.proofs.Trace as Tr
 use Rattle.trace.proofs.Trace.Laws as Tr′
-use Rattle.row.specs.Parts.{number, rowAnswer, upTo}
+use Rattle.row.specs.Answers.{number, rowAnswer, upTo}
 use Rattle.row.proofs.Filling.{all-written, as-long, none-yet, number-fits, one-more, readable}
 use Rattle.row.proofs.written as written
 use Rattle.row.proofs.written.Symbol as written-def

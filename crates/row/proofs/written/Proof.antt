@@ -7,7 +7,7 @@ use Rattle.rule.specs.Calls.{checked, writeVerdict}
 use Rattle.rule.specs.Room.{sound}
 use Rattle.slots.proofs.Laying.{length-slots}
 use Rattle.rule.proofs.Ruling.{flipped}
-use Rattle.row.specs.Parts.{answer}
+use Rattle.row.specs.Answers.{answer}
 use Rattle.row.proofs.written.Statement.{statement}
 use Rattle.row.proofs.written.Tie as tie
 

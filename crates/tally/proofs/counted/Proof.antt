@@ -1,7 +1,7 @@
 -- `tally::counted` meets its contract: its arms are those of the definition.
 use borrow.Author.Needs.{needs}
 use Rattle.rule.specs.Calls.{counted}
-use Rattle.tally.specs.Session.{verdict}
+use Rattle.trace.specs.Answers.{verdict}
 use Rattle.tally.proofs.counted.Statement.{statement}
 use Rattle.tally.proofs.counted.Tie as tie
 

@@ -10,10 +10,10 @@ use denote.Ref.{now}
 use lib.ListN.{drop, getD, length}
 use mir.Syntax.{w64}
 use mir.Facts.{toZ-pos}
-use Rattle.text.specs.declared.Number.{Number}
-use Rattle.printing.specs.Signs.{nine, nought}
-use Rattle.text.specs.Reading.{digits, digitsAfter, isDigit}
-use Rattle.text.proofs.Lines.{digit-range, digits-below, digits-done, digits-next, digits-stop, one-digit-more}
+use Rattle.notation.specs.declared.Number.{Number}
+use Rattle.notation.specs.Signs.{nine, nought}
+use Rattle.notation.specs.Reading.{digits, digitsAfter, isDigit}
+use Rattle.notation.proofs.Lines.{digit-range, digits-below, digits-done, digits-next, digits-stop, one-digit-more}
 use Rattle.text.proofs.digits.Statement.{statement}
 use Rattle.text.proofs.digits.Tie as tie
 

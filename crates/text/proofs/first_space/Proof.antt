@@ -4,8 +4,8 @@ use mathlib.Core.Path.{_≡_}
 use native.Mathlib.Omega.{arith}
 use denote.Ref.{now}
 use lib.ListN.{drop, length}
-use Rattle.text.specs.Reading.{firstSpace}
-use Rattle.text.proofs.Lines.{space-here, space-next, space-none}
+use Rattle.notation.specs.Reading.{firstSpace}
+use Rattle.notation.proofs.Lines.{space-here, space-next, space-none}
 use Rattle.text.proofs.first_space.Statement.{statement}
 use Rattle.text.proofs.first_space.Tie as tie
 

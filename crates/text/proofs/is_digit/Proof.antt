@@ -1,7 +1,7 @@
 -- `text::is_digit` meets its contract.
 use borrow.Author.Tests.{le-leb, lt-leb}
-use Rattle.printing.specs.Signs.{nought}
-use Rattle.text.specs.Reading.{isDigit}
+use Rattle.notation.specs.Signs.{nought}
+use Rattle.notation.specs.Reading.{isDigit}
 use Rattle.text.proofs.is_digit.Statement.{statement}
 use Rattle.text.proofs.is_digit.Tie as tie
 

@@ -8,8 +8,8 @@ use borrow.Author.Needs.{needs}
 use borrow.Author.Tests.{eq-eqb, le-ltb, lt-ltb, ne-eqb}
 use denote.Ref.{now}
 use lib.ListN.{length}
-use Rattle.text.specs.Reading.{firstSpace, lineMost, lineOf}
-use Rattle.text.proofs.Lines.{rest, space-within}
+use Rattle.notation.specs.Reading.{firstSpace, lineMost, lineOf}
+use Rattle.notation.proofs.Lines.{rest, space-within}
 use Rattle.text.proofs.parse_line.Statement.{statement}
 use Rattle.text.proofs.parse_line.Tie as tie
 

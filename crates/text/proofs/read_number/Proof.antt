@@ -9,9 +9,9 @@ use mir.Val.{SFits}
 use mir.Facts.{toZ-ofZ}
 use Rattle.rule.proofs.Signed.{read}
 use Rattle.rule.proofs.Whole.{whole, difference, one-side}
-use Rattle.text.specs.declared.Number.{Number}
-use Rattle.text.specs.Reading.{digits, negated}
-use Rattle.text.proofs.Lines.{digits-positive, number-minus, number-none, number-plain, rest}
+use Rattle.notation.specs.declared.Number.{Number}
+use Rattle.notation.specs.Reading.{digits, negated}
+use Rattle.notation.proofs.Lines.{digits-positive, number-minus, number-none, number-plain, rest}
 use Rattle.text.proofs.read_number.Statement.{statement}
 use Rattle.text.proofs.read_number.Tie as tie
 

@@ -4,8 +4,8 @@ use mathlib.Core.Path.{_≡_, refl, sym, _∙_}
 use native.Mathlib.Omega.{arith}
 use denote.Ref.{now}
 use lib.ListN.{drop, length}
-use Rattle.text.specs.Reading.{same}
-use Rattle.text.proofs.Lines.{same-done, same-lengths, same-next, same-stop}
+use Rattle.notation.specs.Reading.{same}
+use Rattle.notation.proofs.Lines.{same-done, same-lengths, same-next, same-stop}
 use Rattle.text.proofs.same.Statement.{statement}
 use Rattle.text.proofs.same.Tie as tie
 

@@ -8,8 +8,8 @@ use mir.Facts.{toZ-ofZ}
 use Rattle.rule.specs.Numbers.{half}
 use Rattle.rule.specs.Room.{signed}
 use Rattle.rule.proofs.Signed.{read, signed-fits}
-use Rattle.text.specs.Reading.{signedField}
-use Rattle.text.proofs.Lines.{above-range, below-range, in-range}
+use Rattle.notation.specs.Reading.{signedField}
+use Rattle.notation.proofs.Lines.{above-range, below-range, in-range}
 use Rattle.text.proofs.signed_field.Statement.{statement}
 use Rattle.text.proofs.signed_field.Tie as tie
 

@@ -1,7 +1,7 @@
 -- `text::spaced` meets its contract.
 use mathlib.Core.Path.{sym, _∙_}
 use borrow.Author.Needs.{needs}
-use Rattle.text.specs.Reading.{spaced}
+use Rattle.notation.specs.Reading.{spaced}
 use Rattle.text.proofs.spaced.Statement.{statement}
 use Rattle.text.proofs.spaced.Tie as tie
 

@@ -7,8 +7,8 @@ use mir.Syntax.{w64}
 use Rattle.rule.specs.Numbers.{word}
 use Rattle.rule.specs.Room.{unsigned}
 use Rattle.rule.proofs.Signed.{read, unsigned-fits}
-use Rattle.text.specs.Reading.{unsignedField}
-use Rattle.text.proofs.Lines.{above-range, below-range, in-range}
+use Rattle.notation.specs.Reading.{unsignedField}
+use Rattle.notation.proofs.Lines.{above-range, below-range, in-range}
 use Rattle.text.proofs.unsigned_field.Statement.{statement}
 use Rattle.text.proofs.unsigned_field.Tie as tie
 

@@ -9,7 +9,7 @@ use Rattle.rule.specs.Room.{flat, laid}
 use Rattle.rule.specs.Table.{needed, readings, runs}
 use Rattle.settings.proofs.Bounds.{mostNeeded, needed-small}
 use Rattle.trace.specs.Answers.{answer}
-use Rattle.settings.proofs.Granting.{Granted, admit-grants, admit-refuses, admits}
+use Rattle.admission.proofs.Granting.{Granted, admit-grants, admit-refuses, admits}
 use Rattle.trace.proofs.Trace.open.Statement.{statement}
 use Rattle.trace.proofs.Trace.open.Tie as tie
 

@@ -1,0 +1,63 @@
+-- What it means that settings and room are admitted, and that what comes after does not change the first three refusals.
+use Prim.Native.Nat.{ℕ, _*_, _≤_}
+use mathlib.Core.Path.{_≡_}
+use mathlib.Core.Bool.{true, false}
+use mathlib.Core.List.{List, [], _∷_}
+use native.Mathlib.Omega.{arith}
+use borrow.Author.Tests.{leb-true, le-leb, not-false}
+use lib.IntN.{ℤ}
+use lib.ListN.{length}
+use Rattle.rule.specs.declared.Refusal.{Refusal}
+use Rattle.rule.specs.declared.Settings.{Settings}
+use Rattle.rule.specs.Calls.{Check, Verdict, checked, refused, accepted, admitted}
+use Rattle.rule.specs.Numbers.{slotWidth}
+use Rattle.rule.specs.Room.{gapsGood, roomy, stepsGood}
+use Rattle.rule.specs.Table.{Table, needed}
+use Rattle.rule.proofs.Whole.{cond-ind}
+use Rattle.admission.specs.declared.Admitted.{Admitted}
+use Rattle.admission.specs.Admission.{admission}
+
+-- no test holds
+unfoldable pub Unrefused : List Check → Type 0
+Unrefused [] = Unit {0}
+Unrefused (c ∷ l) = (c .0 ≡ false) × Unrefused l
+
+-- what holds of every refusal, and of what comes after where no test holds, holds of both
+pub past-checks : {A : Type 0} (P : Verdict A → Type 0) → ((r : Refusal) → P (refused r)) → (l : List Check) (v : Verdict A) → (Unrefused l → P v) → P (checked l v)
+unfolding checked Unrefused
+past-checks P refuses [] v f = f tt
+past-checks P refuses (c ∷ l) v f = cond-ind (c .0) _ _ P (λ _. refuses (c .1)) (λ e. past-checks P refuses l v (λ k. f (e, k)))
+
+-- ---- settings and room that are admitted
+
+pub record Granted (s : Settings) (l : List ℤ) : Type 0 where
+  pub steps : stepsGood s ≡ true
+  pub gaps : gapsGood (s .kind) (s .gaps) ≡ true
+  pub long : slotWidth * needed s ≤ length l
+
+pub admits : (s : Settings) (l : List ℤ) → Granted s l → (v : Verdict Table) → admitted s l v ≡ v
+unfolding admitted checked roomy
+admits s l g v = rw (g .steps, g .gaps, le-leb (slotWidth * needed s) (length l) (g .long))
+
+-- what open and load ask, passed
+pub past-admission : (s : Settings) (l : List ℤ) (v : Verdict Table) (P : Verdict Table → Type 0) → ((r : Refusal) → P (refused r)) → (Granted s l → P v) → P (admitted s l v)
+unfolding admitted roomy Unrefused
+past-admission s l v P refuses passed =
+    past-checks P refuses _ v
+    (λ p. passed (record { steps = not-false _ (p .0); gaps = not-false _ (p .1 .0); long = leb-true (slotWidth * needed s) (length l) (not-false _ (p .1 .1 .0)) }))
+
+-- what comes after refusals does not change them
+same-refusal : (l : List Check) (s : Settings) (r : Refusal) (v : Verdict Table) → admission s (checked l (accepted [])) ≡ Admitted.Refused r → checked l v ≡ refused r
+unfolding admission checked
+same-refusal [] s r v e = absurd (let z : _≡_ {A = ℕ} 0 1 = cc in omega arith)
+same-refusal ((true, q) ∷ l) s r v e = cc
+same-refusal ((false, q) ∷ l) s r v e = same-refusal l s r v e
+
+pub admit-refuses : (s : Settings) (l : List ℤ) (r : Refusal) → admission s (admitted s l (accepted [])) ≡ Admitted.Refused r → (v : Verdict Table) → admitted s l v ≡ refused r
+unfolding admitted
+admit-refuses s l r e v = same-refusal _ s r v e
+
+pub admit-grants : (s : Settings) (l : List ℤ) (n : ℕ) → admission s (admitted s l (accepted [])) ≡ Admitted.Slots n → Granted s l × (n ≡ needed s)
+unfolding admission
+admit-grants s l n =
+    past-admission s l (accepted []) (λ v. admission s v ≡ Admitted.Slots n → Granted s l × (n ≡ needed s)) (λ r e. absurd (let z : _≡_ {A = ℕ} 0 1 = cc in omega arith)) (λ g e. (g, cc))

@@ -1,0 +1,3 @@
+-- Laws that belong to no one function.
+pub mod Faults
+pub mod OneOutcome

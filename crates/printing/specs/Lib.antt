@@ -1,4 +1,0 @@
--- What the listing of a table is, byte by byte.
-pub mod Signs
-pub mod Printing
-pub mod ByHand

@@ -1,0 +1,63 @@
+// The listing's input, read in pieces.
+ghost use mathlib.Core.Path.{_≡_};
+ghost use Rattle.listing.specs.Feeding.{fed, fresh, hasEnded, restFed};
+use lines::byte;
+use lines::line_ended;
+use listing::Feeding;
+use listing::Stage;
+use trace::Answer;
+use trace::Trace;
+
+// B where no line names it. Nothing else has a default.
+const DEFAULT_STEPS: usize = 32;
+
+// A trace of the default steps, with nothing read.
+pub fn begin(room: &mut [i64]) -> Feeding
+    ensures { λ r. ⌜ (r, now (room .exit)) ≡ fresh (now (room .entry)) ⌝ }
+{
+    let last = Trace::open(settings::in_order(DEFAULT_STEPS), &mut *room);
+    Feeding {
+        last,
+        stage: Stage::Nothing,
+        lines: 0,
+        filled: 0,
+    }
+}
+
+// A piece of the input.
+pub fn piece(f: Feeding, room: &mut [i64], line: &mut [u8], bytes: &[u8]) -> Feeding
+    ensures { λ r. ⌜ (r, (now (room .exit), now (line .exit))) ≡ fed (f, (now (room .entry), now (line .entry))) (now (bytes .entry)) ⌝ }
+{
+    let mut state = f;
+    let mut i = 0;
+    while i < bytes.len() {
+        state = byte(state, &mut *room, &mut *line, bytes[i]);
+        i += 1;
+    }
+    state
+}
+
+// The input's end.
+pub fn rest(f: Feeding, room: &mut [i64], line: &[u8]) -> Feeding
+    ensures { λ r. ⌜ (r, now (room .exit)) ≡ restFed (f .last) f (now (room .entry)) (now (line .entry)) ⌝ }
+{
+    let last = f.last;
+    let Answer::Accepted(t) = last else {
+        return f;
+    };
+    if f.filled == 0 {
+        return f;
+    }
+    line_ended(f, t, &mut *room, line)
+}
+
+// Whether a line was refused: nothing more need be read.
+pub fn ended(f: Feeding) -> bool
+    ensures { λ r. ⌜ r ≡ hasEnded (f .last) ⌝ }
+{
+    let last = f.last;
+    match last {
+        Answer::Accepted(_) => false,
+        Answer::Refused(_) => true,
+    }
+}

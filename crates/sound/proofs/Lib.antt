@@ -1,0 +1,5 @@
+-- Laws that belong to no one function.
+pub mod Tests
+pub mod Scanning
+pub mod Clauses
+pub mod OneOutcome

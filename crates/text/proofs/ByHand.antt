@@ -1,9 +1,0 @@
--- The lines worked by hand: both sides compute to the same.
-use mathlib.Core.Path.{refl}
-use Rattle.rule.specs.Room.{within}
-use Rattle.text.specs.Reading.{digits, digitsAfter, firstSpace, isDigit, lineOf, negated, number, same, signedField, spaced, unsignedField}
-use Rattle.text.specs.ByHand.{ByHand, lines}
-
-pub by-hand : ByHand
-unfolding lines digits digitsAfter firstSpace isDigit lineOf negated number same signedField spaced unsignedField within
-by-hand = record { meanings = refl }

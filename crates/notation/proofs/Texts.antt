@@ -41,6 +41,10 @@ module _ {o p q : List ℕ} {at m r : ℕ} where
   then {a} {b} x y =
       record { next = rw (length-append a b) (omega arith); bytes = rw (y .bytes, x .bytes, x .next) (sets-append o at a b); inside = omega (arith, y .inside, ap length (x .bytes), length-sets o at a) }
 
+-- one byte
+pub stored : (o : List ℕ) (at b r : ℕ) → r ≡ at + 1 → at < length o → Printed o at (b ∷ []) r (set o at b)
+stored o at b r e h = record { next = e; bytes = refl; inside = omega arith }
+
 -- where there is room, the bytes before and behind the text stay
 pub placed : {o q : List ℕ} {at r : ℕ} {t : List ℕ} → at + length t ≤ length o → Printed o at t r q → q ≡ take at o ++ (t ++ drop (at + length t) o)
 placed {o} {at = at} {t = t} h x = x .bytes ∙ sets-eq t o at h ∙ append-assoc (take at o) t (drop (at + length t) o)

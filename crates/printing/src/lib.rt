@@ -6,14 +6,6 @@ ghost use lib.ListN.{length};
 ghost use Rattle.notation.specs.Printing.{Printed, decimal, lineRoom, refused, row, total, whole};
 use rule::Bucket;
 
-fn put_byte(out: &mut [u8], at: usize, b: u8) -> usize
-    requires { ⌜ at < length (now out) ⌝ }
-    ensures { λ r. ⌜ Printed (now (out .entry)) at (b ∷ []) r (now (out .exit)) ⌝ }
-{
-    out[at] = b;
-    at + 1
-}
-
 fn put_bytes(out: &mut [u8], at: usize, s: &[u8]) -> usize
     requires { ⌜ at + length (now s) ≤ length (now out) ⌝ }
     ensures { λ r. ⌜ Printed (now (out .entry)) at (now (s .entry)) r (now (out .exit)) ⌝ }
@@ -26,24 +18,19 @@ fn put_bytes(out: &mut [u8], at: usize, s: &[u8]) -> usize
     at + i
 }
 
-// The digits before the last, then the last.
-fn put_decimal(out: &mut [u8], at: usize, n: usize) -> usize
-    requires { ⌜ at + length (decimal n) ≤ length (now out) ⌝ }
-    ensures { λ r. ⌜ Printed (now (out .entry)) at (decimal n) r (now (out .exit)) ⌝ }
-{
-    if n < 10 {
-        return put_byte(out, at, b'0' + n as u8);
-    }
-    let next = put_decimal(out, at, n / 10);
-    put_byte(out, next, b'0' + (n % 10) as u8)
-}
-
+// The digits, and the byte behind them: the last digit stands so behind the digits of a tenth.
 fn put_number(out: &mut [u8], at: usize, n: usize, end: u8) -> usize
     requires { ⌜ at + length (decimal n) < length (now out) ⌝ }
     ensures { λ r. ⌜ Printed (now (out .entry)) at (decimal n ++ (end ∷ [])) r (now (out .exit)) ⌝ }
 {
-    let next = put_decimal(out, at, n);
-    put_byte(out, next, end)
+    if n < 10 {
+        out[at] = b'0' + n as u8;
+        out[at + 1] = end;
+        return at + 2;
+    }
+    let next = put_number(out, at, n / 10, b'0' + (n % 10) as u8);
+    out[next] = end;
+    next + 1
 }
 
 fn put_whole(out: &mut [u8], at: usize, z: i32, end: u8) -> usize
@@ -51,8 +38,8 @@ fn put_whole(out: &mut [u8], at: usize, z: i32, end: u8) -> usize
     ensures { λ r. ⌜ Printed (now (out .entry)) at (whole z ++ (end ∷ [])) r (now (out .exit)) ⌝ }
 {
     if z < 0 {
-        let next = put_byte(out, at, b'-');
-        put_number(out, next, (-(z as i64)) as usize, end)
+        out[at] = b'-';
+        put_number(out, at + 1, (-(z as i64)) as usize, end)
     } else {
         put_number(out, at, z as usize, end)
     }

@@ -41,10 +41,10 @@ use Rattle.demands.specs.History.{Accepted, Reading, Takes, arrived, runsOf, ta
 use Rattle.demands.specs.Served.{Served}
 use Rattle.demands.proofs.Instance.{demand3 as of-tables}
 use Rattle.promises.specs.Reached.{Reached, SameSettings, late-refused, lates, load-refused, loads, next-refused, nexts, open-refused, opens}
-use Rattle.promises.specs.Answered.{slotsNeeded}
+use Rattle.answered.specs.Answered.{slotsNeeded}
 use Rattle.promises.specs.Demands.{Demand2, Demand3, Upheld}
-use Rattle.promises.proofs.Answering.{limit-is, needed-is}
-use Rattle.promises.proofs.Outcomes.{accepted-is, bytes-written, not-accepted, traced-refused}
+use Rattle.answered.proofs.Answering.{limit-is, needed-is}
+use Rattle.answered.proofs.Outcomes.{accepted-is, bytes-written, not-accepted, traced-refused}
 
 -- ---- along the way
 

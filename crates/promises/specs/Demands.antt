@@ -19,7 +19,7 @@ use Rattle.saved.specs.Bytes.{AllBytes}
 use Rattle.demands.specs.Curve.{Curve, steps}
 use Rattle.demands.specs.History.{Reading, arrived, runsOf, tableAfter}
 use Rattle.demands.specs.Served.{Extremes, Near}
-use Rattle.promises.specs.Answered.{mostSteps, slotsNeeded}
+use Rattle.answered.specs.Answered.{mostSteps, slotsNeeded}
 use Rattle.promises.specs.Reached.{Reached, SameSettings}
 
 -- lookup itself answers, at the reading's tick, a level within E of the reading

@@ -1,6 +1,3 @@
--- The person's demands as statements about the calls and the exported functions, for a stranger to read without the proofs.
-pub mod Answered
+-- Demands 2 and 3 as statements about sequences of calls, for a stranger to read without the proofs.
 pub mod Reached
 pub mod Demands
-pub mod Exported
-pub mod Sound

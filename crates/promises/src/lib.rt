@@ -1,1 +1,1 @@
-// The three demands, stated of the calls and of the exported functions: statements in specs/, their proofs in proofs/. There is no code here.
+// Demands 2 and 3, stated of any sequence of calls: statements in specs/, their proofs in proofs/. There is no code here.

@@ -8,8 +8,7 @@ use Rattle.rule.specs.Calls.{counted as tallied}
 use Rattle.trace.specs.declared.Answer.{Answer}
 use Rattle.trace.specs.Answers.{verdict}
 use Rattle.rule.specs.Outcomes.{OneOutcome}
-use Rattle.rule.proofs.Determined.{both, by-result}
-use Rattle.tally.proofs.counted as counted
+use Rattle.rule.proofs.Determined.{both}
 use Rattle.tally.proofs.next as next
 use Rattle.tally.proofs.late as late
 
@@ -24,9 +23,6 @@ same : (before : Tally) (used : ℕ) {o : Answer × List ℤ} {r r′ : Answer} 
 same before used p q =
     let e = p .0 ∙ sym (q .0) in
     record { answer = λ i. e i .0; room = λ i. e i .1; tally = p .1 ∙ (ap (λ x. tallied before used (verdict (x .0))) e ∙ sym (q .1)) }
-
-pub counted-one : OneOutcome counted.ended (λ M. counted.clauses)
-counted-one M 𝓤 H A mem run κs a g r r′ l l′ = by-result 𝓤
 
 pub next-one : OneOutcome next.ended (λ M. next.clauses)
 next-one M 𝓤 H A mem run κs a g r r′ l l′ = both 𝓤 (λ p q. let e = same (a .1 .1 .1 .0 .now) (a .0 .state .used) p q in (e .answer, λ i. (l .0, (e .room i, (l .1 .1 .0, (e .tally i, l .1 .1 .1 .1))))))

@@ -2,7 +2,7 @@
 use borrow.Author.Needs.{needs}
 use mathlib.Core.Path.{ap}
 use mir.Facts.{toZ-ofZ}
-use Rattle.ndezulangi.specs.Plain.{replied}
+use Rattle.plain.specs.Plain.{replied}
 use Rattle.ndezulangi.proofs.ndz_next.Statement.{statement}
 use Rattle.ndezulangi.proofs.ndz_next.Tie as tie
 

@@ -1,7 +1,7 @@
 -- `ndezulangi::ndz_save` meets its contract: what the call ensures, as plain fields.
 use borrow.Author.Needs.{needs}
 use mathlib.Core.Path.{ap}
-use Rattle.ndezulangi.specs.Plain.{told}
+use Rattle.plain.specs.Plain.{told}
 use Rattle.ndezulangi.proofs.ndz_save.Statement.{statement}
 use Rattle.ndezulangi.proofs.ndz_save.Tie as tie
 

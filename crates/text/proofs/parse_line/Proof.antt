@@ -20,13 +20,12 @@ returns c = rw (lt-ltb lineMost (length (now (c .before .before .args .line))) (
 returns-2 : tie.Need-returns-2
 unfolding lineOf
 returns-2 c =
-    let l = now (c .before .before .before .before .before .before .before .args .line) in
+    let l = now (c .before .before .before .before .before .before .args .line) in
     rw (
       c .alone .ensures,
       c .before .signed-field .ensures,
-      c .before .before .read-number .ensures,
-      le-ltb lineMost (length l) (omega (arith, c .before .before .before .before .before .if1 .left)),
-      eq-eqb (firstSpace l) (length l) (sym (c .before .before .before .before .first-space .ensures) ∙ c .before .before .before .if2 .taken),
+      le-ltb lineMost (length l) (omega (arith, c .before .before .before .before .if1 .left)),
+      eq-eqb (firstSpace l) (length l) (sym (c .before .before .before .first-space .ensures) ∙ c .before .before .if2 .taken),
     )
 
 returns-3 : tie.Need-returns-3
@@ -50,7 +49,6 @@ parse-line-spec =
     (tie.spec
     returns
     (λ c κs. search needs)  -- first-space-requires
-    (λ c κs. search needs)  -- read-number-requires
     (λ c κs. search needs)  -- signed-field-requires
     (λ c κs. search needs)  -- alone-requires
     returns-2

@@ -1,0 +1,265 @@
+-- Demand 1: the chain of refusals of each call gives the first row that is due, and a refusal leaves what was lent.
+use Prim.Native.Nat.{ℕ, zero, suc, _+_, _*_, _/_, _≤_, _<_, min}
+use mathlib.Core.Path.{_≡_, refl, sym, ap, subst, _∙_}
+use mathlib.Core.Bool.{Bool, true, false, cond, false≢true, not, _&&_}
+use mathlib.Core.List.{List, [], _∷_, _++_, map}
+use mathlib.Core.Option.{Option, some, none}
+use native.Mathlib.Omega.{arith}
+use borrow.Author.Tests.{eq-eqb, eqb-true, le-leb, le-ltb, leb-false, leb-true, lt-ltb, ne-eqb}
+use lib.Dec.{leb, ltb}
+use lib.IntN.{ℤ}
+use lib.ListN.{drop, length}
+use Rattle.rule.specs.declared.Bucket.{Bucket}
+use Rattle.rule.specs.declared.Kind.{Kind}
+use Rattle.rule.specs.declared.Kind.the-variants.{InOrder, Late}
+use Rattle.rule.specs.declared.Refusal.{Refusal}
+use Rattle.rule.specs.declared.Settings.{Settings}
+use Rattle.rule.specs.declared.State.{State}
+use Rattle.rule.specs.declared.Tally.{Tally}
+use Rattle.rule.specs.Answers.{number, place}
+use Rattle.rule.specs.Bytes.{recordsOf, saved}
+use Rattle.rule.specs.Calls.{Check, Verdict, accepted, admitted, checked, counted, fileVerdict, found, foundOf, gapsKept, grown, isHeld, kept, late, lateVerdict, loaded, loadVerdict, lookupOutcome, nextVerdict, refused, traced, writeVerdict, wrote}
+use Rattle.rule.specs.Numbers.{most, recordWidth, slotWidth, tallyMost, ticks, word}
+use Rattle.rule.specs.Files.{Finds, FirstBroken, meets}
+use Rattle.rule.specs.Room.{laid, signed, gapsBounded, gapsGood, roomy, runsAllowed, sound, stepsGood, tableOf}
+use Rattle.rule.specs.Rules.{Fault, fault, firstFault, follows, isWhole, placeOr, ruled, whole}
+use Rattle.rule.specs.Table.{Table, accept, holding, insert, limitOver, needed, runs, single}
+use Rattle.rule.proofs.Merging.{settle-runs}
+use Rattle.rule.proofs.Ruling.{Meets, facts-meets, first-is-first, meets-facts}
+use Rattle.rule.proofs.Signed.{signed-fits}
+use Rattle.slots.proofs.Laying.{drop-laid}
+use Rattle.room.specs.Steps.{Ready}
+use Rattle.room.proofs.Sounding.{sound-facts, used-needed}
+use Rattle.room.proofs.Taking.{taken-short}
+use Rattle.trace.proofs.Leaving.{late-either, next-either, open-either}
+use Rattle.worst.specs.Outcome.{measured, worstOutcome}
+use Rattle.saved.proofs.Filing.{load-accepts, load-leaves, loads-needed}
+use Rattle.answered.proofs.Outcomes.{traced-refused}
+use Rattle.rule.proofs.Whole.{by-test}
+use Rattle.answered.specs.Answered.{Answered, Demand1, Lawful, Row, fileRows, firstOf, lateRows, lookupRows, nextRows, openRows, outside, refusing, said, slotsNeeded, saidFound, saidMeasured, saidWritten, worstRows, writeRows}
+
+-- ---- a call's checks and the table's rows
+
+abbrev asRow : Check → Row
+asRow c = record { number = number (c .1); place = place (c .1); due = c .0 }
+
+said-checks : {A : Type 0} (l : List Check) (v : Verdict A) (rows : List Row) → said v ≡ firstOf rows → said (checked l v) ≡ firstOf (map asRow l ++ rows)
+unfolding said checked firstOf
+said-checks [] v rows e = e
+said-checks ((true, r) ∷ l) v rows e = refl
+said-checks ((false, r) ∷ l) v rows e = said-checks l v rows e
+
+said-all : {A : Type 0} (l : List Check) (a : A) → said (checked l (accepted a)) ≡ firstOf (map asRow l ++ [])
+unfolding said firstOf
+said-all l a = said-checks l (accepted a) [] refl
+
+-- ---- the conditions, as the definitions say them and as document 01 does
+
+not-leb : (a b : ℕ) → not (leb a b) ≡ ltb b a
+not-leb a b = by-test (leb a b) (λ h. rw (h, le-ltb b a (leb-true a b h))) (λ h. rw (h, lt-ltb b a (leb-false a b h)))
+
+bounds : (n : ℕ) → not (leb 1 n && leb n most) ≡ outside n
+unfolding outside
+bounds zero = refl
+bounds (suc n) = rw (le-leb 1 (suc n) (omega arith), ne-eqb (suc n) 0 (λ e. omega arith)) (not-leb (suc n) most)
+
+steps-due : (g : Settings) → not (stepsGood g) ≡ outside (g .steps)
+unfolding stepsGood
+steps-due g = bounds (g .steps)
+
+gaps-due : (k : Kind) (gaps : ℕ) → not (gapsGood k (gapsKept k gaps)) ≡ late k && outside gaps
+unfolding gapsGood gapsKept late gapsBounded
+gaps-due InOrder gaps = refl
+gaps-due Late gaps = bounds gaps
+
+runs-due : (k : Kind) (gaps n : ℕ) → not (runsAllowed k (gapsKept k gaps) n) ≡ late k && ltb gaps n
+unfolding runsAllowed gapsKept late
+runs-due InOrder gaps n = refl
+runs-due Late gaps n = not-leb n gaps
+
+-- the limit, in 01's words
+pub limit-is : (k : Kind) (base n : ℕ) → limitOver k base n ≡ base + cond (late k) n 0
+unfolding limitOver late
+limit-is InOrder base n = omega arith
+limit-is Late base n = refl
+
+-- in order K plays no part
+needed-over : (k : Kind) (base gaps : ℕ) → limitOver k base (gapsKept k gaps) ≡ base + cond (late k) gaps 0
+unfolding limitOver late gapsKept
+needed-over InOrder base gaps = omega arith
+needed-over Late base gaps = refl
+
+pub needed-is : (g : Settings) → needed (kept g) ≡ slotsNeeded g
+needed-is g = ap (λ (n : ℕ). n + 1) (needed-over (g .kind) (2 * g .steps) (g .gaps))
+
+room-due : (g : Settings) (l : List ℤ) → not (roomy (kept g) l) ≡ ltb (length l) (4 * slotsNeeded g)
+unfolding roomy
+room-due g l = not-leb (slotWidth * needed (kept g)) (length l) ∙ ap (λ (n : ℕ). ltb (length l) (4 * n)) (needed-is g)
+
+-- late, the limit leaves a bucket for each run
+enough : (k : Kind) (base n : ℕ) → late k ≡ true → n ≤ limitOver k base n
+unfolding late limitOver
+enough InOrder base n e = absurd (false≢true e)
+enough Late base n e = omega arith
+
+accepted-runs : (s : Settings) (t : Table) (tick : ℕ) (v : ℤ) → late (s .kind) ≡ true → runs (insert (single tick v) t) ≡ runs (accept s t tick v)
+unfolding accept
+accepted-runs s t tick v e = sym (settle-runs s (insert (single tick v) t) (enough (s .kind) (2 * s .steps) (runs (insert (single tick v) t)) e))
+
+-- ---- the answers
+
+none-given : (r : ℕ × ℕ) → none ≡ some r → ⊥
+none-given r e = let z : _≡_ {A = ℕ} 0 1 = cc in omega arith
+
+given : (r q : ℕ × ℕ) → some r ≡ some q → r ≡ q
+given r q e = cc
+
+module _ (g : Settings) (l : List ℤ) where
+  answered : (v : Verdict Table) (rows : List Row) → said v ≡ firstOf rows → let o = traced g l v in Answered (said (o .0)) rows l (o .1)
+  unfolding said traced
+  answered (refused r) rows e = record { exactly = e; untouched = λ q f. refl }
+  answered (accepted t) rows e = record { exactly = e; untouched = λ q f. absurd (none-given q f) }
+
+written : {A : Type 0} (form : Table → List A) (out : List A) (v : Verdict Table) (rows : List Row) → said v ≡ firstOf rows
+    → let o = wrote form out v in Answered (saidWritten (o .0)) rows out (o .1)
+unfolding said saidWritten wrote
+written form out (refused r) rows e = record { exactly = e; untouched = λ q f. refl }
+written form out (accepted t) rows e = record { exactly = e; untouched = λ q f. absurd (none-given q f) }
+
+-- ---- each call's chain
+
+admits : (g : Settings) (l : List ℤ) (v : Verdict Table) (rows : List Row) → said v ≡ firstOf rows → said (admitted (kept g) l v) ≡ firstOf (openRows g l ++ rows)
+unfolding admitted
+admits g l v rows e = said-checks _ v rows e ∙ rw (steps-due (kept g), gaps-due (g .kind) (g .gaps), room-due g l)
+
+writes : (s : State) (l : List ℤ) (places taken : ℕ) → said (writeVerdict s l taken places) ≡ firstOf (writeRows s l places taken)
+unfolding writeVerdict
+writes s l places taken = said-all _ _
+
+absent : (o : Option Bucket) → saidFound (found o) ≡ firstOf (refusing 12 (not (isHeld o)) ∷ [])
+unfolding saidFound found firstOf isHeld
+absent none = refl
+absent (some b) = refl
+
+looked : (s : State) (l : List ℤ) (tick : ℕ) → saidFound (lookupOutcome s l tick) ≡ firstOf (lookupRows s l tick)
+unfolding lookupOutcome foundOf checked firstOf saidFound
+looked s l tick =
+    by-test (sound s l)
+    (λ fit. by-test (leb ticks tick) (λ h. rw (fit, h)) (λ h. rw (fit, h) (absent (holding tick (tableOf s l)))))
+    (λ fit. rw fit)
+
+worst-said : (s : State) (l : List ℤ) → saidMeasured (worstOutcome s l) ≡ firstOf (worstRows s l)
+unfolding worstOutcome measured checked firstOf saidMeasured
+worst-said s l = by-test (sound s l) (λ fit. rw fit) (λ fit. rw fit)
+
+told : (t : Tally) (used : ℕ) (o : Verdict State) (r : ℕ × ℕ) → said o ≡ some r → counted t used o ≡ record { accepted = t .accepted; refused = min (t .refused + 1) tallyMost; merges = t .merges }
+unfolding said counted grown
+told t used (refused q) r e = refl
+told t used (accepted s) r e = absurd (none-given r e)
+
+-- ---- load, and 8's place
+
+loading : (g : Settings) (file : List ℕ) (l : List ℤ) → said (loadVerdict (kept g) file l) ≡ firstOf (openRows g l ++ fileRows g file)
+unfolding fileVerdict ruled
+loading g file l =
+    admits g l _ _ (said-all _ _ ∙ rw (runs-due (g .kind) (g .gaps) (runs (recordsOf file)), limit-is (g .kind) (2 * g .steps) (runs (recordsOf file))))
+
+-- a row of another number is not the one given
+other : (n : ℕ) (c : Bool) (rows : List Row) (i : ℕ) → (n ≡ 8 → ⊥) → firstOf (refusing n c ∷ rows) ≡ some (8, i) → firstOf rows ≡ some (8, i)
+unfolding firstOf
+other n true rows i differs e = absurd (differs (ap (λ (r : ℕ × ℕ). r .0) (given (n, 0) (8, i) e)))
+other n false rows i differs e = e
+
+first-of : (k : Kind) (file : List ℕ) (f : Fault) (rows : List Row) (i : ℕ) → (firstOf rows ≡ some (8, i) → ⊥) → Finds k file f
+    → firstOf (record { number = 8; place = placeOr 0 f; due = not (isWhole f) } ∷ rows) ≡ some (8, i) → FirstBroken k file i
+unfolding firstOf placeOr isWhole Finds
+first-of k file whole rows i later h e = absurd (later e)
+first-of k file (fault j r) rows i later h e = subst (FirstBroken k file) (ap (λ (r : ℕ × ℕ). r .1) (given (8, j) (8, i) e)) h
+
+all-meet : (k : Kind) (file : List ℕ) (f : Fault) → isWhole f ≡ true → Finds k file f → (i : ℕ) → i < length file / recordWidth → meets k file i ≡ true
+unfolding isWhole Finds
+all-meet k file whole e h = h
+all-meet k file (fault j r) e h = absurd (false≢true e)
+
+no-row : (r : ℕ × ℕ) → firstOf [] ≡ some r → ⊥
+unfolding firstOf
+no-row r e = none-given r e
+
+eighth : (g : Settings) (file : List ℕ) (l : List ℤ) (i : ℕ) → firstOf (openRows g l ++ fileRows g file) ≡ some (8, i) → FirstBroken (g .kind) file i
+unfolding ruled
+eighth g file l i e =
+    first-of (g .kind) file (firstFault (g .kind) 0 0 (recordsOf file)) _ i
+    (λ f. no-row (8, i) (other 10 _ [] i (λ n. omega arith) (other 9 _ _ i (λ n. omega arith) f)))
+    (first-is-first (g .kind) file)
+    (other 7 _ _ i (λ n. omega arith) (other 3 _ _ i (λ n. omega arith) (other 2 _ _ i (λ n. omega arith) (other 1 _ _ i (λ n. omega arith) e))))
+
+loaded-said : (g : Settings) (file : List ℕ) (l : List ℤ) → said (loaded g file l .0) ≡ firstOf (openRows g l ++ fileRows g file)
+loaded-said g file l = answered (kept g) l (loadVerdict (kept g) file l) (openRows g l ++ fileRows g file) (loading g file l) .exactly
+
+-- ---- the record rules
+
+pub lawful : (k : Kind) (e : ℕ) (b : Bucket) → Meets k e b → Lawful k e b
+unfolding follows late
+lawful InOrder e b m = record { count = m .positive; inside = m .inside; ordered = m .ordered; alone = m .single-level; in-order = λ _. eqb-true (b .start) e (m .follow); not-below = λ h. absurd (false≢true h) }
+lawful Late e b m = record { count = m .positive; inside = m .inside; ordered = m .ordered; alone = m .single-level; in-order = λ h. absurd (false≢true (sym h)); not-below = λ _. leb-true e (b .start) (m .follow) }
+
+pub law-meets : (k : Kind) (e : ℕ) (b : Bucket) → Lawful k e b → Meets k e b
+unfolding follows late
+law-meets InOrder e b m = record { positive = m .count; inside = m .inside; ordered = m .ordered; single-level = m .alone; follow = eq-eqb (b .start) e (m .in-order refl) }
+law-meets Late e b m = record { positive = m .count; inside = m .inside; ordered = m .ordered; single-level = m .alone; follow = le-leb e (b .start) (m .not-below refl) }
+
+-- ---- the slots past the needed number
+
+module _ (g : Settings) (l : List ℤ) where
+  -- what an outcome that leaves no more buckets than slots needed leaves behind them
+  abbrev Past : Verdict Table → Type 0
+  Past v = drop (slotWidth * needed g) (traced g l v .1) ≡ drop (slotWidth * needed g) l
+
+  refused-past : (r : Refusal) → Past (refused r)
+  unfolding traced
+  refused-past r = refl
+
+  accepted-past : (t : Table) → length t ≤ needed g → Past (accepted t)
+  unfolding traced
+  accepted-past t h = drop-laid (needed g) t l h (needed g) (omega arith)
+
+named-past : (g : Settings) (l m : List ℤ) → drop (slotWidth * needed (kept g)) m ≡ drop (slotWidth * needed (kept g)) l → drop (4 * slotsNeeded g) m ≡ drop (4 * slotsNeeded g) l
+named-past g l m e = subst (λ (n : ℕ). drop (slotWidth * n) m ≡ drop (slotWidth * n) l) (needed-is g) e
+
+-- a reading's settings are kept ones
+read-past : (s : State) (l m : List ℤ) → drop (slotWidth * needed (s .settings)) m ≡ drop (slotWidth * needed (s .settings)) l → drop (4 * slotsNeeded (s .settings)) m ≡ drop (4 * slotsNeeded (s .settings)) l
+read-past s l m e = subst (λ (n : ℕ). drop (slotWidth * n) m ≡ drop (slotWidth * n) l) (ap (λ (n : ℕ). n + 1) (limit-is (s .settings .kind) (2 * s .settings .steps) (s .settings .gaps))) e
+
+taken-past : (s : State) (l : List ℤ) (at k tick : ℕ) (v : ℤ) → Ready s l at k tick v → signed v ≡ true → tick < word → Past (s .settings) l (accepted (accept (s .settings) (tableOf s l) tick v))
+taken-past s l at k tick v r range small =
+    accepted-past (s .settings) l _ (omega (arith, taken-short s l at k tick v r (signed-fits v range) small, used-needed s l (sound-facts s l (r .fit))))
+
+load-past : (g : Settings) (file : List ℕ) (l : List ℤ) (o : Verdict State × List ℤ) → loaded g file l ≡ o → drop (slotWidth * needed (kept g)) (o .1) ≡ drop (slotWidth * needed (kept g)) l
+load-past g file l (refused r, m) e = ap (drop (slotWidth * needed (kept g))) (traced-refused (kept g) l (loadVerdict (kept g) file l) r m e)
+load-past g file l (accepted t, m) e =
+    let a = load-accepts g file l t (ap (λ (o : Verdict State × List ℤ). o .0) e) in
+    let left : m ≡ laid (needed (kept g)) (recordsOf file) l = ap (λ (o : Verdict State × List ℤ). o .1) (sym e ∙ load-leaves g file l (a .0) (a .1)) in
+    ap (drop (slotWidth * needed (kept g))) left ∙ drop-laid (needed (kept g)) (recordsOf file) l (omega (arith, loads-needed (kept g) file (a .1))) (needed (kept g)) (omega arith)
+
+pub demand1 : Demand1
+unfolding nextVerdict lateVerdict lookupOutcome writeVerdict ruled said firstOf
+demand1 = record {
+  opens = λ g l. answered (kept g) l (admitted (kept g) l (accepted [])) (openRows g l) (admits g l (accepted []) [] refl);
+  nexts = λ s l v. answered (s .settings) l (nextVerdict s l v) (nextRows s l) (said-all _ _);
+  lates = λ s l tick v. answered (s .settings) l (lateVerdict s l tick v) (lateRows s l tick v)
+      (said-all _ _ ∙ by-test (late (s .settings .kind)) (λ h. rw (accepted-runs (s .settings) (tableOf s l) tick v h)) (λ h. rw h));
+  lookups = λ s l tick. looked s l tick;
+  worsts = worst-said;
+  rows = λ s l out. written (λ t. t) out (writeVerdict s l (s .used) (length out)) (writeRows s l (length out) (s .used)) (writes s l (length out) (s .used));
+  saves = λ s l out. written saved out (writeVerdict s l (recordWidth * s .used) (length out)) (writeRows s l (length out) (recordWidth * s .used)) (writes s l (length out) (recordWidth * s .used));
+  loads = λ g file l. answered (kept g) l (loadVerdict (kept g) file l) (openRows g l ++ fileRows g file)
+      (loading g file l);
+  places = λ g file l i e. eighth g file l i (sym (loaded-said g file l) ∙ e);
+  breaks = λ k file i inside broken. by-test (isWhole (firstFault k 0 0 (recordsOf file))) (λ h. absurd (false≢true (sym broken ∙ all-meet k file (firstFault k 0 0 (recordsOf file)) h (first-is-first k file) i inside))) (λ h. h);
+  rules = λ k e b. (λ h. lawful k e b (meets-facts k e b h), λ h. facts-meets k e b (law-meets k e b h));
+  past-open = λ g l. named-past g l _ (open-either g l (Past (kept g) l) (refused-past (kept g) l) (λ _. accepted-past (kept g) l [] (omega arith)));
+  past-next = λ s l v range. read-past s l _ (next-either s l v (Past (s .settings) l) (refused-past (s .settings) l) (λ _ r small. taken-past s l _ _ _ v r range small));
+  past-late = λ s l tick v range. read-past s l _ (late-either s l v (Past (s .settings) l) (refused-past (s .settings) l) tick (λ _ _ r small. taken-past s l _ _ tick v r range small));
+  past-load = λ g file l. named-past g l _ (load-past g file l (loaded g file l) refl);
+  tally = told;
+}

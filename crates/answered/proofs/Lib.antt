@@ -1,0 +1,4 @@
+-- Laws that belong to no one function.
+pub mod Outcomes
+pub mod Answering
+pub mod Soundly

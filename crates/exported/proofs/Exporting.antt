@@ -1,0 +1,280 @@
+-- The exported functions keep the demands: each replies what its call answers, and what they reach is what the calls reach.
+use Prim.Native.Nat.{ℕ, _*_, _≤_, _<_}
+use mathlib.Core.Path.{_≡_, refl, sym, ap, _∙_, subst}
+use mathlib.Core.Logic.{_≢_}
+use mathlib.Core.Bool.{Bool, true, false, cond}
+use mathlib.Core.List.{List, [], _∷_, _++_, List·Memᴰ}
+use mathlib.Core.Option.{Option, some}
+use native.Mathlib.Omega.{arith}
+use borrow.Author.Tests.{le-ltb, lt-leb}
+use lib.Dec.{leb}
+use lib.IntN.{ℤ}
+use lib.ListN.{drop, length, take}
+use Rattle.rule.specs.declared.Refusal.{Refusal}
+use Rattle.rule.specs.declared.Refusal.the-variants.{Steps, Gaps, Room, Unsound, Kind, Tick, Length, Record, Runs, Overfull, Taken, Absent, Short, Line}
+use Rattle.rule.specs.declared.Settings.{Settings}
+use Rattle.rule.specs.declared.State.{State}
+use Rattle.rule.specs.declared.Tally.{Tally}
+use Rattle.rule.specs.declared.Found.{Found}
+use Rattle.rule.specs.declared.Written.{Written}
+use Rattle.rule.specs.Answers.{number, place}
+use Rattle.rule.specs.Bucket.{distance}
+use Rattle.rule.specs.Bytes.{saved}
+use Rattle.rule.specs.Calls.{Verdict, accepted, checked, counted, found, foundOf, grown, isHeld, kept, late, lateOutcome, lateVerdict, loaded, lookupOutcome, nextOutcome, nextVerdict, opened, refused, rowOutcome, saveOutcome, traced, writeVerdict, wrote}
+use Rattle.rule.specs.Numbers.{recordWidth, slotWidth, ticks}
+use Rattle.rule.specs.Room.{allOf, clauses, sound, stepsGood, tableOf}
+use Rattle.rule.specs.Table.{Table, holding, holds, needed, worst}
+use Rattle.rule.proofs.Whole.{by-test}
+use Rattle.rule.proofs.Tables.{one}
+use Rattle.record.proofs.RoundTrip.{length-saved}
+use Rattle.slots.proofs.Laying.{length-slots}
+use Rattle.room.proofs.Placing.{held-counts}
+use Rattle.room.proofs.Sounding.{sound-facts, sound-ordered}
+use Rattle.trace.specs.Answers.{answer, answered}
+use Rattle.worst.specs.declared.Measured.{Measured}
+use Rattle.worst.specs.Outcome.{measured, worstOutcome}
+use Rattle.saved.proofs.RoundTrips.{loaded-saved, saved-loaded}
+use Rattle.demands.specs.History.{Reading, arrived}
+use Rattle.plain.specs.declared.Counted.{Counted}
+use Rattle.plain.specs.declared.Fields.{Fields}
+use Rattle.plain.specs.declared.Named.{Named}
+use Rattle.plain.specs.declared.Reply.{Reply}
+use Rattle.plain.specs.Plain.{erring, fieldsOf, kindOf, lookupReply, none, numberOf, replied, replying, settingsOf, showing, stateFrom, telling, told, worstReply}
+use Rattle.plain.proofs.SameState.{same-state}
+use Rattle.answered.specs.Answered.{Answered, Row, fileRows, firstOf, lateRows, lookupRows, nextRows, openRows, said, saidFound, saidMeasured, saidWritten, worstRows, writeRows}
+use Rattle.promises.specs.Reached.{Reached}
+use Rattle.exported.specs.Exported.{Called, Counts, Errs, ExportedDemand1, ExportedDemand2, Promised, Replies, Shows, Tallies, firstDue, wroteAll}
+use Rattle.answered.proofs.Answering.{demand1, needed-is}
+use Rattle.promises.proofs.Keeping.{held-small, keeps, kept-same, kept-twice, loaded-kept}
+use Rattle.answered.proofs.Outcomes.{next-in-order}
+
+-- ---- demand 1
+
+-- refusal and place, zeros where nothing is said
+abbrev saying : Option (ℕ × ℕ) → ℕ × ℕ
+saying Option.none = (0, 0)
+saying (some r) = r
+
+due : (rows : List Row) → firstDue rows ≡ saying (firstOf rows)
+unfolding firstDue firstOf
+due [] = refl
+due (r ∷ rs) = by-test (r .due) (λ h. rw h) (λ h. rw h (due rs))
+
+numbered : (r : Refusal) → 1 ≤ number r
+numbered Steps = omega arith
+numbered Gaps = omega arith
+numbered Room = omega arith
+numbered Unsound = omega arith
+numbered Kind = omega arith
+numbered Tick = omega arith
+numbered Length = omega arith
+numbered (Record i) = omega arith
+numbered Runs = omega arith
+numbered Overfull = omega arith
+numbered Taken = omega arith
+numbered Absent = omega arith
+numbered Short = omega arith
+numbered Line = omega arith
+
+replies : (back : Fields) (v : Verdict State) (rows : List Row) (before after : List ℤ) → Answered (said v) rows before after → Replies rows back before after (replying back (answer v))
+unfolding said replying answer
+replies back (refused r) rows before after a = record { exactly = ap saying (a .exactly) ∙ sym (due rows); untouched = λ h. (refl, a .untouched (number r, place r) refl) }
+replies back (accepted s) rows before after a = record { exactly = ap saying (a .exactly) ∙ sym (due rows); untouched = λ h. absurd (h refl) }
+
+tallies : (back : Fields) (used : ℕ) (v : Verdict State) (t : Tally) → Tallies used (replying back (answer v)) t (counted t used v)
+unfolding said counted grown replying answer
+tallies back used (refused r) t = record { counts-refused = λ h. demand1 .tally t used (refused r) (number r, place r) refl; counts-accepted = λ h. absurd (omega (arith, h, numbered r)) }
+tallies back used (accepted s) t = record { counts-refused = λ h. absurd (h refl); counts-accepted = λ h. refl }
+
+shows-found : (f : Found) (rows : List Row) → saidFound f ≡ firstOf rows → Shows rows (showing f)
+unfolding saidFound showing
+shows-found (Found.Refused r) rows e = record { exactly = ap saying e ∙ sym (due rows); zeros = λ h. refl }
+shows-found (Found.Level level error least largest) rows e = record { exactly = ap saying e ∙ sym (due rows); zeros = λ h. absurd (h refl) }
+
+errs : (m : Measured) (rows : List Row) → saidMeasured m ≡ firstOf rows → Errs rows (erring m)
+unfolding saidMeasured erring
+errs (Measured.Refused r) rows e = record { exactly = ap saying e ∙ sym (due rows); none-told = λ h. refl }
+errs (Measured.Error n) rows e = record { exactly = ap saying e ∙ sym (due rows); none-told = λ h. absurd (h refl) }
+
+counts : {A : Type 0} (w : Written) (rows : List Row) (before after : List A) → Answered (saidWritten w) rows before after → Counts rows before after (telling w)
+unfolding saidWritten telling
+counts (Written.Refused r) rows before after a = record { exactly = ap saying (a .exactly) ∙ sym (due rows); untouched = λ h. (refl, a .untouched (number r, place r) refl) }
+counts (Written.Buckets n) rows before after a = record { exactly = ap saying (a .exactly) ∙ sym (due rows); untouched = λ h. absurd (h refl) }
+
+eight : (back : Fields) (v : Verdict State) → replying back (answer v) .refusal ≡ 8 → said v ≡ some (8, replying back (answer v) .place)
+unfolding said replying answer
+eight back (refused r) e = ap (λ (n : ℕ). some (n, place r)) e
+eight back (accepted s) e = absurd (omega arith)
+
+pub exported-demand1 : ExportedDemand1
+unfolding sound clauses allOf stepsGood nextVerdict lateVerdict lookupOutcome foundOf writeVerdict worstOutcome measured checked traced wrote answer replying showing telling erring kindOf
+exported-demand1 = record {
+  opens = λ named l. let g = settingsOf named in replies none (opened g l .0) (openRows g l) l (opened g l .1) (demand1 .opens g l);
+  nexts = λ f l v. let s = stateFrom f in replies f (nextOutcome s l v .0) (nextRows s l) l (nextOutcome s l v .1) (demand1 .nexts s l v);
+  lates = λ f l tick v. let s = stateFrom f in replies f (lateOutcome s l tick v .0) (lateRows s l tick v) l (lateOutcome s l tick v .1) (demand1 .lates s l tick v);
+  next-tallies = λ f l v. tallies f (f .used) (nextOutcome (stateFrom f) l v .0);
+  late-tallies = λ f l tick v. tallies f (f .used) (lateOutcome (stateFrom f) l tick v .0);
+  lookups = λ f l tick. let s = stateFrom f in shows-found (lookupOutcome s l tick) (lookupRows s l tick) (demand1 .lookups s l tick);
+  worsts = λ f l. let s = stateFrom f in errs (worstOutcome s l) (worstRows s l) (demand1 .worsts s l);
+  rows = λ f l out. let s = stateFrom f in counts (rowOutcome s l out .0) (writeRows s l (length out) (f .used)) out (rowOutcome s l out .1) (demand1 .rows s l out);
+  saves = λ f l out. let s = stateFrom f in counts (saveOutcome s l out .0) (writeRows s l (length out) (recordWidth * f .used)) out (saveOutcome s l out .1) (demand1 .saves s l out);
+  loads = λ named file l. let g = settingsOf named in replies none (loaded g file l .0) (openRows g l ++ fileRows g file) l (loaded g file l .1) (demand1 .loads g file l);
+  places = λ named file l e. let g = settingsOf named in demand1 .places g file l (replying none (answer (loaded g file l .0)) .place) (eight none (loaded g file l .0) e);
+  kinds = (refl, λ n. refl);
+  unsound = λ l. refl;
+  unusable = λ l tick v out bytes. refl;
+}
+
+-- ---- a reply, taken apart by its refusal
+
+module _ (back : Fields) where
+  -- refusal 0: the call was accepted, and the reply's state is the call's
+  record Accepts (o : Verdict State × List ℤ) (r : Reply) (m : List ℤ) : Type 0 where
+    outcome : o ≡ (accepted (stateFrom (r .state)), m)
+    plain : fieldsOf (stateFrom (r .state)) ≡ r .state
+
+  accepts : (o : Verdict State × List ℤ) {r : Reply} {m : List ℤ} → replied back (answered o) ≡ (r, m) → r .refusal ≡ 0 → Accepts o r m
+  unfolding replying answer
+  accepts (refused q, l) e z = absurd (omega (arith, numbered q, ap (λ (x : Reply × List ℤ). x .0 .refusal) e))
+  accepts (accepted s, l) e z = record {
+    outcome = ap (λ (x : State). (accepted x, l)) (sym (same-state s)) ∙ ap (λ (x : Reply × List ℤ). (accepted (stateFrom (x .0 .state)), x .1)) e;
+    plain = subst (λ (x : Reply × List ℤ). fieldsOf (stateFrom (x .0 .state)) ≡ x .0 .state) e (ap fieldsOf (same-state s));
+  }
+
+  -- another: it was refused, and the state is the one handed back
+  record Refuses (o : Verdict State × List ℤ) (r : Reply) (m : List ℤ) : Type 0 where
+    why : Refusal
+    outcome : o ≡ (refused why, m)
+    state : r .state ≡ back
+
+  refuses : (o : Verdict State × List ℤ) {r : Reply} {m : List ℤ} → replied back (answered o) ≡ (r, m) → r .refusal ≢ 0 → Refuses o r m
+  unfolding replying answer
+  refuses (refused q, l) e n = record { why = q; outcome = ap (λ (x : Reply × List ℤ). (refused q, x .1)) e; state = sym (ap (λ (x : Reply × List ℤ). x .0 .state) e) }
+  refuses (accepted s, l) e n = absurd (n (sym (ap (λ (x : Reply × List ℤ). x .0 .refusal) e)))
+
+-- the same of a reply that counts what was written
+writes : (o : Written × List ℕ) {c : Counted} {written : List ℕ} → told o ≡ (c, written) → c .refusal ≡ 0 → o ≡ (Written.Buckets (c .buckets), written)
+unfolding telling
+writes (Written.Refused q, l) e z = absurd (omega (arith, numbered q, ap (λ (x : Counted × List ℕ). x .0 .refusal) e))
+writes (Written.Buckets n, l) e z = ap (λ (x : Counted × List ℕ). (Written.Buckets (x .0 .buckets), x .1)) e
+
+-- ---- what the exported functions reach
+
+module _ {named : Named} where
+  -- with the state that the caller has, which is one of the fields' own
+  reaches : {rs : List Reading} {f : Fields} {l : List ℤ} → Called named rs f l → Reached (settingsOf named) rs (stateFrom f) l × (fieldsOf (stateFrom f) ≡ f)
+  reaches (Called.opens l e z) =
+      let a = accepts none (opened (settingsOf named) l) e z in
+      (Reached.opens l (a .outcome), a .plain)
+  reaches (Called.nexts {rs = rs} {f = f} {l = l} {m = m} {r = r} v range c e z) =
+      let s : State = stateFrom f in
+      let a = accepts f (nextOutcome s l v) e z in
+      let k = keeps (reaches c .0) in
+      let in-order : late (kindOf (named .kind)) ≡ false = sym (ap (λ (x : Settings). late (x .kind)) (k .named)) ∙ next-in-order s l v (a .outcome) in
+      (subst (λ (tick : ℕ). Reached (settingsOf named) (record { tick = tick; value = v } ∷ rs) (stateFrom (r .state)) m) (k .next in-order) (Reached.nexts v range (reaches c .0) (a .outcome)), a .plain)
+  reaches (Called.lates {f = f} {l = l} tick v range c e z) =
+      let a = accepts f (lateOutcome (stateFrom f) l tick v) e z in
+      (Reached.lates tick v range (reaches c .0) (a .outcome), a .plain)
+  reaches (Called.next-refused {rs = rs} {f = f} {l = l} {m = m} v c e n) =
+      let a = refuses f (nextOutcome (stateFrom f) l v) e n in
+      subst (λ (x : Fields). Reached (settingsOf named) rs (stateFrom x) m × (fieldsOf (stateFrom x) ≡ x)) (sym (a .state)) (Reached.next-refused v (reaches c .0) (a .outcome), reaches c .1)
+  reaches (Called.late-refused {rs = rs} {f = f} {l = l} {m = m} tick v c e n) =
+      let a = refuses f (lateOutcome (stateFrom f) l tick v) e n in
+      subst (λ (x : Fields). Reached (settingsOf named) rs (stateFrom x) m × (fieldsOf (stateFrom x) ≡ x)) (sym (a .state)) (Reached.late-refused tick v (reaches c .0) (a .outcome), reaches c .1)
+  reaches (Called.open-refused {l = l} other c e n) =
+      (Reached.open-refused (settingsOf other) (reaches c .0) (refuses none (opened (settingsOf other) l) e n .outcome), reaches c .1)
+  reaches (Called.load-refused {l = l} other file c e n) =
+      (Reached.load-refused (settingsOf other) file (reaches c .0) (refuses none (loaded (settingsOf other) file l) e n .outcome), reaches c .1)
+  reaches (Called.loads {f = f} {l = l} {c = q} {written = written} out room other same c saves z e y) =
+      let a = accepts none (loaded (settingsOf other) (take (recordWidth * q .buckets) written) room) e y in
+      (Reached.loads out room (settingsOf other) same (reaches c .0) (writes (saveOutcome (stateFrom f) l out) saves z) (a .outcome), a .plain)
+
+-- ---- what ndz_lookup and ndz_worst show of it
+
+-- the error shown is at most the worst
+found-error : (tick : ℕ) (t : Table) → showing (found (holding tick t)) .error ≤ worst t
+unfolding showing found holding worst
+found-error tick [] = omega arith
+found-error tick (b ∷ t) = by-test (holds tick b) (λ h. rw h (omega arith)) (λ h. rw h (omega (arith, found-error tick t)))
+
+shown-error : (f : Fields) (l : List ℤ) (tick : ℕ) → lookupReply f l tick .error ≤ worst (tableOf (stateFrom f) l)
+unfolding showing lookupOutcome foundOf checked
+shown-error f l tick =
+    by-test (sound (stateFrom f) l)
+    (λ fit. by-test (leb ticks tick) (λ h. rw (fit, h) (omega arith)) (λ h. rw (fit, h) (found-error tick (tableOf (stateFrom f) l))))
+    (λ fit. rw fit (omega arith))
+
+looked : (f : Fields) (l : List ℤ) (tick : ℕ) (here : Bool) → sound (stateFrom f) l ≡ true → isHeld (holding tick (tableOf (stateFrom f) l)) ≡ here → (here ≡ true → tick < ticks)
+    → lookupReply f l tick .refusal ≡ cond here 0 (cond (leb ticks tick) 6 12)
+unfolding firstDue
+looked f l tick true fit h small = ap (λ (x : ℕ × ℕ). x .0) (exported-demand1 .lookups f l tick .exactly) ∙ rw (fit, lt-leb ticks tick (small refl), h)
+looked f l tick false fit h small = ap (λ (x : ℕ × ℕ). x .0) (exported-demand1 .lookups f l tick .exactly) ∙ by-test (leb ticks tick) (λ g. rw (fit, g)) (λ g. rw (fit, g, h))
+
+worst-of : (f : Fields) (l : List ℤ) → sound (stateFrom f) l ≡ true → worstReply f l ≡ record { refusal = 0; place = 0; error = worst (tableOf (stateFrom f) l) }
+unfolding worstOutcome measured checked erring
+worst-of f l fit = rw fit
+
+-- ---- what ndz_row and ndz_save write of it
+
+wrote-all : {A : Type 0} (form : Table → List A) (taken : ℕ) (f : Fields) (l : List ℤ) (out : List A) → length (form (tableOf (stateFrom f) l)) ≡ taken → sound (stateFrom f) l ≡ true → taken ≤ length out
+    → told (wrote form out (writeVerdict (stateFrom f) l taken (length out))) ≡ (wroteAll (f .used), form (tableOf (stateFrom f) l) ++ drop taken out)
+unfolding writeVerdict checked wrote telling
+wrote-all form taken f l out long fit h = rw (fit, le-ltb (length out) taken h, long, length-slots l 0 (f .used))
+
+same-test : (c d : Bool) → one c ≡ one d → c ≡ d
+same-test true true e = refl
+same-test true false e = absurd (omega arith)
+same-test false true e = absurd (omega arith)
+same-test false false e = refl
+
+-- ---- demands 2 and 3
+
+pub promises : {named : Named} {rs : List Reading} {f : Fields} {l : List ℤ} → Called named rs f l → Promised named rs f l
+unfolding showing replying answer
+promises {named} {rs} {f} {l} c =
+    let plain : fieldsOf (stateFrom f) ≡ f = reaches c .1 in
+    let k = keeps (reaches c .0) in
+    let t : Table = tableOf (stateFrom f) l in
+    let facts = sound-facts (stateFrom f) l (k .fit) in
+    record {
+      keeps = k;
+      plain = plain;
+      kind-named = sym (ap (λ (x : Fields). x .kind) plain) ∙ ap (λ (x : Settings). numberOf (x .kind)) (k .named);
+      steps-named = ap (λ (x : Settings). x .steps) (k .named);
+      gaps-named = k .gaps-named;
+      size = k .size;
+      runs = k .runs;
+      readings = k .readings;
+      row = λ out long. wrote-all (λ t. t) (f .used) f l out (length-slots l 0 (f .used)) (k .fit) long ∙ ap (λ (x : Table). (wroteAll (f .used), x ++ drop (f .used) out)) (k .buckets);
+      save = λ out long. wrote-all saved (recordWidth * f .used) f l out (length-saved t ∙ ap (λ (n : ℕ). recordWidth * n) (length-slots l 0 (f .used))) (k .fit) long ∙ ap (λ (x : Table). (wroteAll (f .used), saved x ++ drop (recordWidth * f .used) out)) (k .buckets);
+      load = λ other room same long.
+          let h : Settings = settingsOf other in
+          let bytes : List ℕ = saved t in
+          ap (λ (x : Table). replying none (answer (loaded h (saved x) room .0))) (sym (k .buckets))
+          ∙ ap (λ (x : Verdict State × List ℤ). replying none (answer (x .0))) (loaded-kept (stateFrom f .settings) h bytes room (kept-same h (settingsOf named) same ∙ sym (kept-twice (settingsOf named)) ∙ ap kept (sym (k .named))) ∙ saved-loaded (stateFrom f) l room (k .fit) (subst (λ (x : Settings). slotWidth * needed x ≤ length room) (sym (k .named)) (subst (λ (n : ℕ). slotWidth * n ≤ length room) (sym (needed-is (settingsOf named))) long)))
+          ∙ ap (λ (x : Fields). record { refusal = 0; place = 0; state = x }) plain;
+      picture = λ curve E few near r m.
+          let p = k .picture curve E few near in
+          let seen = p .0 r m in
+          record {
+            shown = ap (λ (x : Found). showing x .refusal) (seen .answer);
+            near = subst (λ (x : Found). distance (r .value) (showing x .level) ≤ E) (sym (seen .answer)) (seen .near);
+            error = omega (arith, shown-error f l (r .tick), p .1);
+          };
+      worst-told = worst-of f l (k .fit) ∙ ap (λ (x : Table). record { refusal = 0; place = 0; error = worst x }) (k .buckets);
+      worst-within = λ curve E few near. subst (λ (x : Table). worst x ≤ E) (k .buckets) (k .picture curve E few near .1);
+      lookups = λ tick b m h. ap showing (k .lookups tick b (subst (List·Memᴰ b) (sym (k .buckets)) m) h);
+      covers = λ tick.
+          looked f l tick (arrived tick rs) (k .fit)
+          (same-test (isHeld (holding tick t)) (arrived tick rs) (sym (held-counts 0 tick t (sound-ordered (stateFrom f) l facts)) ∙ k .covers tick))
+          (λ here. held-small (kindOf (f .kind)) 0 tick t (facts .rules) (omega (arith, k .covers tick, ap one here)));
+    }
+
+pub exported-demand2 : ExportedDemand2
+unfolding telling
+exported-demand2 = record {
+  same-bytes = λ named file out l known long z.
+      let h : Settings = settingsOf named in
+      let a = accepts none (loaded h file l) {r = replying none (answer (loaded h file l .0))} {m = loaded h file l .1} refl z in
+      ap told (loaded-saved h file l (stateFrom (replying none (answer (loaded h file l .0)) .state)) out known (ap (λ (x : Verdict State × List ℤ). x .0) (a .outcome)) long);
+}

@@ -1,0 +1,164 @@
+-- The demands of the exported functions, for a stranger who calls them from C: what each answers and leaves, and what any sequence of them keeps.
+use Prim.Native.Nat.{ℕ, suc, _+_, _-_, _*_, _/_, _≤_, min}
+use mathlib.Core.Path.{_≡_}
+use mathlib.Core.Logic.{_≢_}
+use mathlib.Core.Bool.{true, false, cond}
+use mathlib.Core.List.{List, [], _∷_, _++_, List·Memᴰ}
+use lib.Dec.{leb}
+use lib.IntN.{ℤ, pos}
+use lib.ListN.{drop, length, take}
+use Rattle.rule.specs.declared.Bucket.{Bucket}
+use Rattle.rule.specs.declared.Kind.the-variants.{InOrder, Late}
+use Rattle.rule.specs.declared.Tally.{Tally}
+use Rattle.rule.specs.Bucket.{distance, error, level}
+use Rattle.rule.specs.Bytes.{saved}
+use Rattle.rule.specs.Calls.{kept, late}
+use Rattle.rule.specs.Files.{FirstBroken}
+use Rattle.rule.specs.Room.{signed, sound}
+use Rattle.rule.specs.Table.{Table, holds, worst}
+use Rattle.saved.specs.Bytes.{AllBytes}
+use Rattle.demands.specs.Curve as curve
+use Rattle.demands.specs.Curve.{Curve}
+use Rattle.demands.specs.History.{Reading, arrived, runsOf, tableAfter}
+use Rattle.demands.specs.Served.{Near}
+use Rattle.plain.specs.declared.Counted.{Counted}
+use Rattle.plain.specs.declared.Fields.{Fields}
+use Rattle.plain.specs.declared.Named.{Named}
+use Rattle.plain.specs.declared.Reply.{Reply}
+use Rattle.plain.specs.declared.Shown.{Shown}
+use Rattle.plain.specs.declared.WorstError.{WorstError}
+use Rattle.plain.specs.Plain.{fieldsOf, kindOf, lateReply, lateTally, loadReply, lookupReply, nextReply, nextTally, none, numberOf, openReply, rowReply, saveReply, settingsOf, stateFrom, worstReply}
+use Rattle.answered.specs.Answered.{Row, fileRows, lateRows, lookupRows, mostSteps, nextRows, openRows, slotsNeeded, worstRows, writeRows}
+use Rattle.promises.specs.Demands.{Upheld}
+use Rattle.promises.specs.Reached.{SameSettings}
+
+-- ---- demand 1, by the rows of the table in Answered.antt
+
+-- refusal and place: those of the first row that is due, zeros where none is
+unfoldable pub firstDue : List Row → ℕ × ℕ
+firstDue [] = (0, 0)
+firstDue (r ∷ rs) = cond (r .due) (r .number, r .place) (firstDue rs)
+
+-- of open, load and the two readings; refused, the state handed back is `back`, and the room is as it was
+pub record Replies (rows : List Row) (back : Fields) (before after : List ℤ) (r : Reply) : Type 0 where
+  pub exactly : (r .refusal, r .place) ≡ firstDue rows
+  pub untouched : r .refusal ≢ 0 → (r .state ≡ back) × (after ≡ before)
+
+-- of lookup, which writes nothing; refused, its other numbers are 0
+pub record Shows (rows : List Row) (s : Shown) : Type 0 where
+  pub exactly : (s .refusal, s .place) ≡ firstDue rows
+  pub zeros : s .refusal ≢ 0 → s ≡ record { refusal = s .refusal; place = s .place; level = pos 0; error = 0; least = pos 0; largest = pos 0 }
+
+-- of the worst error, which writes nothing; refused, it is 0
+pub record Errs (rows : List Row) (w : WorstError) : Type 0 where
+  pub exactly : (w .refusal, w .place) ≡ firstDue rows
+  pub none-told : w .refusal ≢ 0 → w .error ≡ 0
+
+-- of row and save; refused, no bucket is told, and the output is as it was
+pub record Counts {A : Type 0} (rows : List Row) (before after : List A) (c : Counted) : Type 0 where
+  pub exactly : (c .refusal, c .place) ≡ firstDue rows
+  pub untouched : c .refusal ≢ 0 → (c .buckets ≡ 0) × (after ≡ before)
+
+-- of a tallied reading on a trace with so many slots in use before: refused, the count of the refused changes and no other; accepted, that of the accepted, and merges by the buckets that are gone. Each stops at 4294967295
+pub record Tallies (used : ℕ) (r : Reply) (before after : Tally) : Type 0 where
+  pub counts-refused : r .refusal ≢ 0 → after ≡ record { accepted = before .accepted; refused = min (before .refused + 1) 4294967295; merges = before .merges }
+  pub counts-accepted : r .refusal ≡ 0 → after ≡ record { accepted = min (before .accepted + 1) 4294967295; refused = before .refused; merges = min (before .merges + (used + 1 - r .state .used)) 4294967295 }
+
+-- of each function, for any numbers and bytes: open and load hand back zeros where they are refused, the two readings the state that was given
+pub record ExportedDemand1 : Type 0 where
+  pub opens : (named : Named) (l : List ℤ) → let o = openReply named l in Replies (openRows (settingsOf named) l) none l (o .1) (o .0)
+  pub nexts : (f : Fields) (l : List ℤ) (v : ℤ) → let o = nextReply f l v in Replies (nextRows (stateFrom f) l) f l (o .1) (o .0)
+  pub lates : (f : Fields) (l : List ℤ) (tick : ℕ) (v : ℤ) → let o = lateReply f l tick v in Replies (lateRows (stateFrom f) l tick v) f l (o .1) (o .0)
+  -- the tallied readings reply and leave the room as these two do, and leave the tally so
+  pub next-tallies : (f : Fields) (l : List ℤ) (v : ℤ) (t : Tally) → Tallies (f .used) (nextReply f l v .0) t (nextTally f l v t)
+  pub late-tallies : (f : Fields) (l : List ℤ) (tick : ℕ) (v : ℤ) (t : Tally) → Tallies (f .used) (lateReply f l tick v .0) t (lateTally f l tick v t)
+  pub lookups : (f : Fields) (l : List ℤ) (tick : ℕ) → Shows (lookupRows (stateFrom f) l tick) (lookupReply f l tick)
+  pub worsts : (f : Fields) (l : List ℤ) → Errs (worstRows (stateFrom f) l) (worstReply f l)
+  -- a record a bucket
+  pub rows : (f : Fields) (l : List ℤ) (out : List Bucket) → let o = rowReply f l out in Counts (writeRows (stateFrom f) l (length out) (f .used)) out (o .1) (o .0)
+  -- sixteen bytes a bucket
+  pub saves : (f : Fields) (l : List ℤ) (out : List ℕ) → let o = saveReply f l out in Counts (writeRows (stateFrom f) l (length out) (16 * f .used)) out (o .1) (o .0)
+  pub loads : (named : Named) (file : List ℕ) (l : List ℤ) → let o = loadReply named file l in
+      Replies (openRows (settingsOf named) l ++ fileRows (settingsOf named) file) none l (o .1) (o .0)
+  -- 8: the record at its place is the file's, it breaks a rule, and all before it meet them
+  pub places : (named : Named) (file : List ℕ) (l : List ℤ) → let r = loadReply named file l .0 in r .refusal ≡ 8 → FirstBroken (kindOf (named .kind)) file (r .place)
+  -- kind 0 is in order, any other late
+  pub kinds : (kindOf 0 ≡ InOrder) × ((n : ℕ) → kindOf (suc n) ≡ Late)
+  -- the zeros that a refused open or load hands back are sound in no room, so no call accepts them
+  pub unsound : (l : List ℤ) → sound (stateFrom none) l ≡ false
+  pub unusable : (l : List ℤ) (tick : ℕ) (v : ℤ) (out : List Bucket) (bytes : List ℕ)
+      → nextReply none l v .0 .refusal ∷ lateReply none l tick v .0 .refusal ∷ lookupReply none l tick .refusal ∷ worstReply none l .refusal ∷ rowReply none l out .0 .refusal ∷ saveReply none l bytes .0 .refusal ∷ []
+      ≡ 4 ∷ 4 ∷ 4 ∷ 4 ∷ 4 ∷ 4 ∷ []
+
+-- ---- demands 2 and 3
+
+-- What a caller can reach from ndz_open with the settings named, each call getting the state and the room as the last one left them:
+-- the caller has the state f, and the room holds l, after the accepted readings rs, newest first. Lookup, worst, row and save write neither, and a tallied reading is the reading, for state and room.
+pub data Called (named : Named) : List Reading → Fields → List ℤ → Type 0 where
+  -- opened empty, in any room
+  opens : {r : Reply} {m : List ℤ} (l : List ℤ) → openReply named l ≡ (r, m) → r .refusal ≡ 0 → Called named [] (r .state) m
+  -- an accepted reading, any signed 32-bit number: in order they take the ticks 0, 1, 2 and so on
+  nexts : {rs : List Reading} {f : Fields} {l m : List ℤ} {r : Reply} (v : ℤ) → signed v ≡ true → Called named rs f l → nextReply f l v ≡ (r, m) → r .refusal ≡ 0
+      → Called named (record { tick = length rs; value = v } ∷ rs) (r .state) m
+  lates : {rs : List Reading} {f : Fields} {l m : List ℤ} {r : Reply} (tick : ℕ) (v : ℤ) → signed v ≡ true → Called named rs f l → lateReply f l tick v ≡ (r, m) → r .refusal ≡ 0
+      → Called named (record { tick = tick; value = v } ∷ rs) (r .state) m
+  -- a refused reading: the caller goes on with the state that it handed back
+  next-refused : {rs : List Reading} {f : Fields} {l m : List ℤ} {r : Reply} (v : ℤ) → Called named rs f l → nextReply f l v ≡ (r, m) → r .refusal ≢ 0 → Called named rs (r .state) m
+  late-refused : {rs : List Reading} {f : Fields} {l m : List ℤ} {r : Reply} (tick : ℕ) (v : ℤ) → Called named rs f l → lateReply f l tick v ≡ (r, m) → r .refusal ≢ 0 → Called named rs (r .state) m
+  -- a refused open or load, by any settings and bytes, lent the room that holds the trace: the caller goes on with the state of before
+  open-refused : {rs : List Reading} {f : Fields} {l m : List ℤ} {r : Reply} (other : Named) → Called named rs f l → openReply other l ≡ (r, m) → r .refusal ≢ 0 → Called named rs f m
+  load-refused : {rs : List Reading} {f : Fields} {l m : List ℤ} {r : Reply} (other : Named) (file : List ℕ) → Called named rs f l → loadReply other file l ≡ (r, m) → r .refusal ≢ 0 → Called named rs f m
+  -- saved into any output, and the bytes that were written loaded into any room by the same settings: late any kind but 0 is the same, and in order any gaps
+  loads : {rs : List Reading} {f : Fields} {l m : List ℤ} {c : Counted} {written : List ℕ} {r : Reply} (out : List ℕ) (room : List ℤ) (other : Named)
+      → SameSettings (settingsOf other) (settingsOf named) → Called named rs f l → saveReply f l out ≡ (c, written) → c .refusal ≡ 0
+      → loadReply other (take (16 * c .buckets) written) room ≡ (r, m) → r .refusal ≡ 0 → Called named rs (r .state) m
+
+-- ndz_lookup at the reading's tick is not refused: its level is within E of the reading, and its error is at most E
+pub record Within (E : ℕ) (f : Fields) (l : List ℤ) (r : Reading) : Type 0 where
+  pub shown : lookupReply f l (r .tick) .refusal ≡ 0
+  pub near : distance (r .value) (lookupReply f l (r .tick) .level) ≤ E
+  pub error : lookupReply f l (r .tick) .error ≤ E
+
+-- the buckets of the rule applied to the accepted readings
+abbrev pub bucketsOf : Named → List Reading → Table
+bucketsOf named rs = tableAfter (kept (settingsOf named)) rs
+
+-- not refused: so many buckets were written
+abbrev pub wroteAll : ℕ → Counted
+wroteAll n = record { refusal = 0; place = 0; buckets = n }
+
+-- of a trace opened with the settings named
+pub record Promised (named : Named) (rs : List Reading) (f : Fields) (l : List ℤ) : Type 0 where
+  -- demands 2 and 3, as the calls keep them, of the state with these fields
+  pub keeps : Upheld (settingsOf named) rs (stateFrom f) l
+  -- the fields are that state's, and say nothing else
+  pub plain : fieldsOf (stateFrom f) ≡ f
+  -- the settings named at the opening: a late kind is 1, and in order K is kept as 0
+  pub kind-named : f .kind ≡ numberOf (kindOf (named .kind))
+  pub steps-named : f .steps ≡ named .steps
+  pub gaps-named : f .gaps ≡ cond (late (kindOf (named .kind))) (named .gaps) 0
+  -- at most 2B steps, late one more for each unbroken run
+  pub size : f .used ≤ mostSteps (settingsOf named) (runsOf rs)
+  pub runs : f .runs ≡ runsOf rs
+  pub readings : f .readings ≡ length rs
+  -- demand 2: ndz_row and ndz_save write the buckets of the rule, where the output is long enough, and nothing behind them
+  pub row : (out : List Bucket) → f .used ≤ length out → rowReply f l out ≡ (wroteAll (f .used), bucketsOf named rs ++ drop (f .used) out)
+  pub save : (out : List ℕ) → 16 * f .used ≤ length out → saveReply f l out ≡ (wroteAll (f .used), saved (bucketsOf named rs) ++ drop (16 * f .used) out)
+  -- and ndz_load of these bytes by the same settings, into any room that is long enough, hands back the same state
+  pub load : (other : Named) (room : List ℤ) → SameSettings (settingsOf other) (settingsOf named) → 4 * slotsNeeded (settingsOf named) ≤ length room
+      → loadReply other (saved (bucketsOf named rs)) room .0 ≡ record { refusal = 0; place = 0; state = f }
+  -- demand 3: against every curve of at most as many flat steps as named, by ndz_lookup itself
+  pub picture : (c : Curve) (E : ℕ) → curve.steps c ≤ named .steps → Near E c rs → (r : Reading) → List·Memᴰ r rs → Within E f l r
+  -- and by ndz_worst, which tells the greatest error of the buckets of the rule
+  pub worst-told : worstReply f l ≡ record { refusal = 0; place = 0; error = worst (bucketsOf named rs) }
+  pub worst-within : (c : Curve) (E : ℕ) → curve.steps c ≤ named .steps → Near E c rs → worst (bucketsOf named rs) ≤ E
+  -- ndz_lookup shows, at each tick, the level, error, least and largest of the bucket that holds it
+  pub lookups : (tick : ℕ) (b : Bucket) → List·Memᴰ b (bucketsOf named rs) → holds tick b ≡ true
+      → lookupReply f l tick ≡ record { refusal = 0; place = 0; level = level b; error = error b; least = b .least; largest = b .largest }
+  -- ndz_lookup shows exactly the ticks of the accepted readings: any other is refused, above the last tick by 6 and else by 12
+  pub covers : (tick : ℕ) → lookupReply f l tick .refusal ≡ cond (arrived tick rs) 0 (cond (leb 16777216 tick) 6 12)
+
+-- demand 2 of bytes from anywhere: what ndz_load accepts, ndz_save writes, and nothing behind it
+pub record ExportedDemand2 : Type 0 where
+  pub same-bytes : (named : Named) (file out : List ℕ) (l : List ℤ) → AllBytes file → length file ≤ length out → let o = loadReply named file l in o .0 .refusal ≡ 0
+      → saveReply (o .0 .state) (o .1) out ≡ (wroteAll (length file / 16), file ++ drop (length file) out)

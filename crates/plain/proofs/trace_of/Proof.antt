@@ -1,0 +1,11 @@
+-- `plain::trace_of` meets its contract.
+use borrow.Author.Needs.{needs}
+use Rattle.plain.proofs.trace_of.Statement.{statement}
+use Rattle.plain.proofs.trace_of.Tie as tie
+
+pub trace-of-spec : {M : Type 1} → statement M
+trace-of-spec =
+    tie.close
+    (tie.spec
+    (λ c κs. search needs)  -- settings-of-requires
+    (λ c. rw (c .settings-of .ensures)))  -- returns

@@ -36,11 +36,12 @@ use Rattle.worst.specs.Outcome.{measured, worstOutcome}
 use Rattle.saved.proofs.RoundTrips.{loaded-saved, saved-loaded}
 use Rattle.demands.specs.History.{Reading, arrived}
 use Rattle.plain.specs.declared.Counted.{Counted}
-use Rattle.plain.specs.declared.Fields.{Fields}
-use Rattle.plain.specs.declared.Named.{Named}
+use Rattle.fields.specs.declared.Fields.{Fields}
+use Rattle.fields.specs.declared.Named.{Named}
 use Rattle.plain.specs.declared.Reply.{Reply}
-use Rattle.plain.specs.Plain.{erring, fieldsOf, kindOf, lookupReply, none, numberOf, replied, replying, settingsOf, showing, stateFrom, telling, told, worstReply}
-use Rattle.plain.proofs.SameState.{same-state}
+use Rattle.fields.specs.States.{fieldsOf, kindOf, none, numberOf, settingsOf, stateFrom}
+use Rattle.plain.specs.Plain.{erring, lookupReply, replied, replying, showing, telling, told, worstReply}
+use Rattle.fields.proofs.SameState.{same-state}
 use Rattle.answered.specs.Answered.{Answered, Row, fileRows, firstOf, lateRows, lookupRows, nextRows, openRows, said, saidFound, saidMeasured, saidWritten, worstRows, writeRows}
 use Rattle.promises.specs.Reached.{Reached}
 use Rattle.exported.specs.Exported.{Called, Counts, Errs, ExportedDemand1, ExportedDemand2, Promised, Replies, Shows, Tallies, firstDue, wroteAll}

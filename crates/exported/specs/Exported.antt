@@ -22,12 +22,13 @@ use Rattle.demands.specs.Curve.{Curve}
 use Rattle.demands.specs.History.{Reading, arrived, runsOf, tableAfter}
 use Rattle.demands.specs.Served.{Near}
 use Rattle.plain.specs.declared.Counted.{Counted}
-use Rattle.plain.specs.declared.Fields.{Fields}
-use Rattle.plain.specs.declared.Named.{Named}
+use Rattle.fields.specs.declared.Fields.{Fields}
+use Rattle.fields.specs.declared.Named.{Named}
 use Rattle.plain.specs.declared.Reply.{Reply}
 use Rattle.plain.specs.declared.Shown.{Shown}
 use Rattle.plain.specs.declared.WorstError.{WorstError}
-use Rattle.plain.specs.Plain.{fieldsOf, kindOf, lateReply, lateTally, loadReply, lookupReply, nextReply, nextTally, none, numberOf, openReply, rowReply, saveReply, settingsOf, stateFrom, worstReply}
+use Rattle.fields.specs.States.{fieldsOf, kindOf, none, numberOf, settingsOf, stateFrom}
+use Rattle.plain.specs.Plain.{lateReply, lateTally, loadReply, lookupReply, nextReply, nextTally, openReply, rowReply, saveReply, worstReply}
 use Rattle.answered.specs.Answered.{Row, fileRows, lateRows, lookupRows, mostSteps, nextRows, openRows, slotsNeeded, worstRows, writeRows}
 use Rattle.promises.specs.Demands.{Upheld}
 use Rattle.promises.specs.Reached.{SameSettings}

@@ -34,12 +34,12 @@ use Rattle.trace.specs.declared.Trace.{Trace}
 use Rattle.trace.proofs.Trace as Tr
 use Rattle.trace.proofs.Trace.Laws as Tr′
 use Rattle.lending.proofs.Reading.{Sits, whole}
-use Rattle.plain.specs.declared.Fields.{Fields}
-use Rattle.plain.specs.Plain.{stateFrom}
-use Rattle.plain.proofs.Fields as F
-use Rattle.plain.proofs.Fields.Laws as F′
-use Rattle.plain.proofs.trace_of as trace-of
-use Rattle.plain.proofs.trace_of.Symbol.{name as #plain·trace_of}
+use Rattle.fields.specs.declared.Fields.{Fields}
+use Rattle.fields.specs.States.{stateFrom}
+use Rattle.fields.proofs.Fields as F
+use Rattle.fields.proofs.Fields.Laws as F′
+use Rattle.fields.proofs.trace_of as trace-of
+use Rattle.fields.proofs.trace_of.Symbol.{name as #fields·trace_of}
 
 -- ---- what is had at exit of a parameter that was handed on: what its callee ensures of its last value
 
@@ -77,10 +77,10 @@ module _ {M : Type 1} (𝓤 : URA M) (H : Heap 𝓤) (A : Atoms 𝓤) (mem : Mem
     goes-trace = qed W (‵ ftrue ∷ []) ∵ owned ! F.the-row (Is F.the-row) (LL.makes F.the-type F′.the-plain 𝓤 H A) f _ is-f $ fjoin ! $ nothing ! $ join ! $ frame ! $ done !
 
     -- the fields are local 1, the trace becomes local i, and Δ is what is not looked at
-    pub traces : (C : Calls 𝓤 H) (Λ : Loops 𝓤 H) (fm : FmC 𝓤 H (W .laws) C) → Triple 𝓤 (C #plain·trace_of) Traces → (i l₁ lt : ℕ) (E : Env 𝓤 H) (Δ : List (Item 𝓤)) (more : Body) (P : Val → SProp 𝓤)
+    pub traces : (C : Calls 𝓤 H) (Λ : Loops 𝓤 H) (fm : FmC 𝓤 H (W .laws) C) → Triple 𝓤 (C #fields·trace_of) Traces → (i l₁ lt : ℕ) (E : Env 𝓤 H) (Δ : List (Item 𝓤)) (more : Body) (P : Val → SProp 𝓤)
         → Sits 𝓤 H A W E 1 F′.mir l₁ → Sits 𝓤 H A W E i Tr′.mir lt
         → ((t : Trace) (w : Val) → t .state ≡ stateFrom f → Sq W (‵ (Tr.the-row .own t (w ∷ [])) ∷ ‵ (fat fullShare Tr′.mir lt 0 w) ∷ ‵ (fat fullShare F′.mir l₁ 0 v) ∷ Δ) (runs C Λ E more (atRet E P)))
-        → Sq W (‵ (froom Tr′.mir lt 0) ∷ ‵ (fat fullShare F′.mir l₁ 0 v) ∷ Δ) (runs C Λ E (seq (call #plain·trace_of (whole 1 ∷ []) (place i [])) more) (atRet E P))
+        → Sq W (‵ (froom Tr′.mir lt 0) ∷ ‵ (fat fullShare F′.mir l₁ 0 v) ∷ Δ) (runs C Λ E (seq (call #fields·trace_of (whole 1 ∷ []) (place i [])) more) (atRet E P))
     traces C Λ fm known i l₁ lt E Δ more P at-f at-t go =
         nothing ! $ use1 W (raw (Traces .pre to-trace)) goes-trace $
         calls-at ! fm Traces known to-trace (and-then ! (load ! (at-f _ _ _ (stop !)) (look ! 2 refl)) (no-more !)) (λ w.

@@ -56,16 +56,17 @@ use Rattle.row.proofs.row.Symbol as row-def
 use Rattle.row.proofs.row.Symbol.{name as #row·row}
 use Rattle.row.proofs.row.Met as row-thm
 use Rattle.plain.specs.declared.Counted.{Counted}
-use Rattle.plain.specs.declared.Fields.{Fields}
-use Rattle.plain.specs.Plain.{rowReply, stateFrom, telling, told}
+use Rattle.fields.specs.declared.Fields.{Fields}
+use Rattle.fields.specs.States.{stateFrom}
+use Rattle.plain.specs.Plain.{rowReply, telling, told}
 use Rattle.handing.proofs.Handing.{Traces, fits-handed, goes-handed, handed, traces}
 use Rattle.plain.proofs.Counted as K
 use Rattle.plain.proofs.Counted.Laws as K′
-use Rattle.plain.proofs.Fields as F
-use Rattle.plain.proofs.Fields.Laws as F′
-use Rattle.plain.proofs.trace_of.Symbol as trace-of-def
-use Rattle.plain.proofs.trace_of.Symbol.{name as #plain·trace_of}
-use Rattle.plain.proofs.trace_of.Met as trace-of-thm
+use Rattle.fields.proofs.Fields as F
+use Rattle.fields.proofs.Fields.Laws as F′
+use Rattle.fields.proofs.trace_of.Symbol as trace-of-def
+use Rattle.fields.proofs.trace_of.Symbol.{name as #fields·trace_of}
+use Rattle.fields.proofs.trace_of.Met as trace-of-thm
 use Rattle.plain.proofs.telling as tells
 use Rattle.plain.proofs.telling.Symbol as tells-def
 use Rattle.plain.proofs.telling.Symbol.{name as #plain·telling}
@@ -99,7 +100,7 @@ code-of xs = record {
   outlives = [];
   params = 3;
   locals = local-of K′.mir ∷ local-of F′.mir ∷ local-of (sliceTy (tyRef (named 0) imm (tyInt w64))) ∷ local-of (sliceTy (tyRef (named 1) mut (pointee (B.the-row .written)))) ∷ local-of Tr′.mir ∷ local-of Wr′.mir ∷ local-of again ∷ local-of (sliceTy again) ∷ [];
-  body = seq (call #plain·trace_of (whole 1 ∷ []) (place 4 [])) (seq (assign (place 6 []) (addrOf (place 3 (field 0 ∷ deref B′.mir ∷ [])))) (seq (assign (place 7 []) (aggregate (whole 6 ∷ copy (place 3 (field 1 ∷ [])) ∷ []))) (seq (call #row·row xs (place 5 [])) (seq (call #plain·telling (whole 5 ∷ []) (place 0 [])) return))));
+  body = seq (call #fields·trace_of (whole 1 ∷ []) (place 4 [])) (seq (assign (place 6 []) (addrOf (place 3 (field 0 ∷ deref B′.mir ∷ [])))) (seq (assign (place 7 []) (aggregate (whole 6 ∷ copy (place 3 (field 1 ∷ [])) ∷ []))) (seq (call #row·row xs (place 5 [])) (seq (call #plain·telling (whole 5 ∷ []) (place 0 [])) return))));
 }
 
 abbrev function : Fn
@@ -171,7 +172,7 @@ module _ {M : Type 1} (𝓤 : URA M) (H : Heap 𝓤) (A : Atoms 𝓤) (mem : Mem
         answered : {zs : List Bucket} → Wrote zs → _≡_ {A = Counted × List Bucket} (c, zs) (told (rowOutcome (stateFrom f) (x .now) (y .now)))
         answered {zs} h = ap (λ (k : Counted). (k, zs)) g ∙ (ap told h ∙ ap (λ (s : State). told (rowOutcome s (x .now) (y .now))) e)
 
-    module _ (𝓣 : Tables 𝓤 H) (known-trace : Triple 𝓤 (𝓣 .C #plain·trace_of) (Traces 𝓤 H A mem run)) (known-row : Triple 𝓤 (𝓣 .C #row·row) Writes) (known-tell : Triple 𝓤 (𝓣 .C #plain·telling) Tells) where
+    module _ (𝓣 : Tables 𝓤 H) (known-trace : Triple 𝓤 (𝓣 .C #fields·trace_of) (Traces 𝓤 H A mem run)) (known-row : Triple 𝓤 (𝓣 .C #row·row) Writes) (known-tell : Triple 𝓤 (𝓣 .C #plain·telling) Tells) where
       walk : ent 𝓤 (onEntry 𝓤 H A (ended .signature) (κ, (κ′, tt)) (q, (q′, tt)) (f, (x, (y, tt))) vals) (WpFn 𝓤 H (𝓣 .C) (𝓣 .Λ) function (flat (typesAt (ended .signature .params) (κ, (κ′, tt))) vals) Post)
       walk =
           qed W (Tokens ∷ ‵ (owns (F.the-row ∷ ShrSlice (named 0) κ i64 ∷ MutSlice (named 1) κ′ B.the-row ∷ []) (f, (x, (y, tt))) vals) ∷ []) ∵ enter ! (𝓣 .C) (𝓣 .Λ) function _ _ $
@@ -195,7 +196,7 @@ module _ {M : Type 1} (𝓤 : URA M) (H : Heap 𝓤) (A : Atoms 𝓤) (mem : Mem
           forget ! 3 refl $ forget ! 4 refl $ forget ! 5 refl $ forget ! 7 refl $ forget ! 9 refl $ forget ! 12 refl $ forget ! 14 refl $ forget ! 17 refl $
           move ! (17 ∷ 18 ∷ 4 ∷ 16 ∷ 14 ∷ 15 ∷ 12 ∷ 13 ∷ 3 ∷ 11 ∷ 9 ∷ 10 ∷ 7 ∷ 8 ∷ 5 ∷ 6 ∷ []) $ free1 ! $ free1 ! $ free1 ! $ free1 ! $ free1 ! $ free1 ! $ free1 ! $ free1 ! $ free0 ! $ by ! (exits t r c z e g)))))))))))))))))
 
-  meets : (W : Given 𝓤 H A) (𝓣 : Tables 𝓤 H) → Triple 𝓤 (𝓣 .C #plain·trace_of) (Traces 𝓤 H A mem run) → Triple 𝓤 (𝓣 .C #row·row) Writes → Triple 𝓤 (𝓣 .C #plain·telling) Tells → Meets 𝓤 H A (ended .signature) (WpFn 𝓤 H (𝓣 .C) (𝓣 .Λ) function) (closing 𝓤 H A ended clauses)
+  meets : (W : Given 𝓤 H A) (𝓣 : Tables 𝓤 H) → Triple 𝓤 (𝓣 .C #fields·trace_of) (Traces 𝓤 H A mem run) → Triple 𝓤 (𝓣 .C #row·row) Writes → Triple 𝓤 (𝓣 .C #plain·telling) Tells → Meets 𝓤 H A (ended .signature) (WpFn 𝓤 H (𝓣 .C) (𝓣 .Λ) function) (closing 𝓤 H A ended clauses)
   meets W 𝓣 known-trace known-row known-tell = walk-meets 𝓤 H A ended stayed W
       (goes-handed 𝓤 H A W 2 (ended .signature .params) (ended .kept)) clauses (WpFn 𝓤 H (𝓣 .C) (𝓣 .Λ) function) (WpFn-mono 𝓤 H (W .laws) 𝓣 function) (walked 𝓤 H A ended stayed clauses (WpFn 𝓤 H (𝓣 .C) (𝓣 .Λ) function)
       (λ κs. (LL.vals F.the-type F′.the-laws, (slice-vals, (slice-vals, tt)))) (λ κs. (LL.tells F.the-type F′.the-laws, (shr-slice-tells (named 0) (κs .0) i64, (mut-slice-tells (named 1) (κs .1 .0) B.the-row, tt))))
@@ -203,13 +204,13 @@ module _ {M : Type 1} (𝓤 : URA M) (H : Heap 𝓤) (A : Atoms 𝓤) (mem : Mem
 
 module _ {M : Type 1} (𝓤 : URA M) (H : Heap 𝓤) (𝓜 : Model 𝓤 H) (𝓖 : GhostRules 𝓤 H) (𝓡 : Running 𝓤 H 𝓜) where
   -- the walk is of any code that calls `row::row` with the arguments
-  pub met : (xs : List Operand) (γ : Names) (k : Name) → Closed 𝓤 H (tables 𝓤 H 𝓜 𝓡 γ .C) (tables 𝓤 H 𝓜 𝓡 γ .Λ) k (code-of xs) → γ #plain·trace_of ≡ trace-of-def.routine → γ #row·row ≡ row-def.routine → γ #plain·telling ≡ tells-def.routine → xs ≡ called
+  pub met : (xs : List Operand) (γ : Names) (k : Name) → Closed 𝓤 H (tables 𝓤 H 𝓜 𝓡 γ .C) (tables 𝓤 H 𝓜 𝓡 γ .Λ) k (code-of xs) → γ #fields·trace_of ≡ trace-of-def.routine → γ #row·row ≡ row-def.routine → γ #plain·telling ≡ tells-def.routine → xs ≡ called
       → Meets 𝓤 H (𝓖 .A) (ended .signature) (𝓡 .run (γ k)) (closing 𝓤 H (𝓖 .A) ended (clauses 𝓤 H (𝓖 .A) (𝓜 .mem) (𝓡 .run)))
   unfolding tablesOf
   met xs γ k closed d e f are =
       entered 𝓤 H (tripleOf 𝓤 H (𝓖 .A) (ended .signature) (closing 𝓤 H (𝓖 .A) ended (clauses 𝓤 H (𝓖 .A) (𝓜 .mem) (𝓡 .run)))) (tables 𝓤 H 𝓜 𝓡 γ .C) (tables 𝓤 H 𝓜 𝓡 γ .Λ) k function
       (subst (λ (ys : List Operand). Closed 𝓤 H (tables 𝓤 H 𝓜 𝓡 γ .C) (tables 𝓤 H 𝓜 𝓡 γ .Λ) k (code-of ys)) are closed)
       (meets 𝓤 H (𝓖 .A) (𝓜 .mem) (𝓡 .run) (givenOf 𝓤 H 𝓜 𝓖) (tablesOf 𝓤 H 𝓜 (tables 𝓤 H 𝓜 𝓡 γ))
-      (cited 𝓤 H (Traces 𝓤 H (𝓖 .A) (𝓜 .mem) (𝓡 .run)) 𝓜 𝓡 γ #plain·trace_of trace-of-def.routine d (trace-of-thm.met 𝓤 H 𝓜 𝓖 𝓡))
+      (cited 𝓤 H (Traces 𝓤 H (𝓖 .A) (𝓜 .mem) (𝓡 .run)) 𝓜 𝓡 γ #fields·trace_of trace-of-def.routine d (trace-of-thm.met 𝓤 H 𝓜 𝓖 𝓡))
       (cited 𝓤 H (Writes 𝓤 H (𝓖 .A) (𝓜 .mem) (𝓡 .run)) 𝓜 𝓡 γ #row·row row-def.routine e (row-thm.met 𝓤 H 𝓜 𝓖 𝓡))
       (cited 𝓤 H (Tells 𝓤 H (𝓖 .A) (𝓜 .mem) (𝓡 .run)) 𝓜 𝓡 γ #plain·telling tells-def.routine f (tells-thm.met 𝓤 H 𝓜 𝓖 𝓡)))

@@ -68,17 +68,18 @@ use Rattle.tally.proofs.late as late-core
 use Rattle.tally.proofs.late.Symbol as late-def
 use Rattle.tally.proofs.late.Symbol.{name as #tally·late}
 use Rattle.tally.proofs.late.Met as late-thm
-use Rattle.plain.specs.declared.Fields.{Fields}
+use Rattle.fields.specs.declared.Fields.{Fields}
 use Rattle.plain.specs.declared.Reply.{Reply}
-use Rattle.plain.specs.Plain.{lateReply, lateTally, nextReply, nextTally, replied, replying, stateFrom}
+use Rattle.fields.specs.States.{stateFrom}
+use Rattle.plain.specs.Plain.{lateReply, lateTally, nextReply, nextTally, replied, replying}
 use Rattle.handing.proofs.Handing.{Traces, fits-handed, goes-handed, handed, traces}
-use Rattle.plain.proofs.Fields as F
-use Rattle.plain.proofs.Fields.Laws as F′
+use Rattle.fields.proofs.Fields as F
+use Rattle.fields.proofs.Fields.Laws as F′
 use Rattle.plain.proofs.Reply as R
 use Rattle.plain.proofs.Reply.Laws as R′
-use Rattle.plain.proofs.trace_of.Symbol as trace-of-def
-use Rattle.plain.proofs.trace_of.Symbol.{name as #plain·trace_of}
-use Rattle.plain.proofs.trace_of.Met as trace-of-thm
+use Rattle.fields.proofs.trace_of.Symbol as trace-of-def
+use Rattle.fields.proofs.trace_of.Symbol.{name as #fields·trace_of}
+use Rattle.fields.proofs.trace_of.Met as trace-of-thm
 use Rattle.plain.proofs.replying as replies
 use Rattle.plain.proofs.replying.Symbol as replies-def
 use Rattle.plain.proofs.replying.Symbol.{name as #plain·replying}
@@ -139,7 +140,7 @@ code f n tick xs = record {
   outlives = [];
   params = n + 1;
   locals = local-of R′.mir ∷ local-of F′.mir ∷ local-of rooms ∷ (tick ++ (local-of (tyInt w32) ∷ local-of loan ∷ local-of Tr′.mir ∷ local-of N′.mir ∷ local-of lent ∷ local-of (sliceTy lent) ∷ local-of again ∷ []));
-  body = seq (call #plain·trace_of (whole 1 ∷ []) (place (n + 2) [])) (rest f n xs);
+  body = seq (call #fields·trace_of (whole 1 ∷ []) (place (n + 2) [])) (rest f n xs);
 }
 
 abbrev pub code-of : Reading → List Operand → Fn
@@ -241,7 +242,7 @@ module _ {M : Type 1} (𝓤 : URA M) (H : Heap 𝓤) (A : Atoms 𝓤) (at-mem : 
           suffices ! _ (ends-at 𝓤 H A (T-of at-tick) (stayed at-tick) (clauses at-tick) W (((κ, (κ′, tt)), (q, (q′, tt)), tt, a at-tick n, vals at-tick n), tt) w c zs (fits-handed (κ, (κ′, tt)) (slots at-tick) (kept at-tick) (a at-tick n) zs)) $
           says ! (in-fields (λ s. lateOutcome s (x .now) (n .0) v) (y .now) t r (zs .1 .0) (zs .1 .1 .1 .1 .0) f c e g b) $ move ! (2 ∷ []) $ framed ! $ done !))
 
-      module _ (C : Calls 𝓤 H) (Λ : Loops 𝓤 H) (fm : FmC 𝓤 H (W .laws) C) (known-trace : Triple 𝓤 (C #plain·trace_of) (Traces 𝓤 H A at-mem run)) (known-reply : Triple 𝓤 (C #plain·replying) Replies) (room : Room i64 (length (x .now))) where
+      module _ (C : Calls 𝓤 H) (Λ : Loops 𝓤 H) (fm : FmC 𝓤 H (W .laws) C) (known-trace : Triple 𝓤 (C #fields·trace_of) (Traces 𝓤 H A at-mem run)) (known-reply : Triple 𝓤 (C #plain·replying) Replies) (room : Room i64 (length (x .now))) where
         abbrev s : Val
         s = sliceVal (x .ptr) (length (x .now))
 
@@ -266,7 +267,7 @@ module _ {M : Type 1} (𝓤 : URA M) (H : Heap 𝓤) (A : Atoms 𝓤) (at-mem : 
             → ((t : Trace) (r : Answer) (c : Reply) (w u z : Val) → t .state ≡ stateFrom f → c ≡ replying f r
             → Sq W (‵ (R.the-row .own c (z ∷ [])) ∷ Tokens ∷ raw (Said h n t r) ∷ (held lt l₁ l₂ ly w ++ (relent lp ls lr ++ (‵ (fat fullShare N′.mir la 0 u) ∷ ‵ (fat fullShare R′.mir l₀ 0 z) ∷ Δ)))) (frees (starts l₀ l₁ l₂ E) (prop (Post h n z))))
             → Sq W (‵ (froom Tr′.mir lt 0) ∷ ‵ (fat fullShare F′.mir l₁ 0 vf) ∷ ‵ (fat fullShare rooms l₂ 0 s) ∷ ‵ (fat fullShare loan ly 0 p) ∷ ‵ (froom lent lp 0) ∷ ‵ (froom (sliceTy lent) ls 0) ∷ ‵ (froom again lr 0) ∷ ‵ (froom N′.mir la 0) ∷ ‵ (froom R′.mir l₀ 0) ∷ Tokens ∷ Lent h n ∷ Δ)
-            (runs C Λ (starts l₀ l₁ l₂ E) (seq (call #plain·trace_of (whole 1 ∷ []) (place (i + 2) [])) (rest (reading h) i (called h))) (atRet (starts l₀ l₁ l₂ E) (Post h n)))
+            (runs C Λ (starts l₀ l₁ l₂ E) (seq (call #fields·trace_of (whole 1 ∷ []) (place (i + 2) [])) (rest (reading h) i (called h))) (atRet (starts l₀ l₁ l₂ E) (Post h n)))
         hands h n i l₀ l₁ l₂ ly lt la lp ls lr E Δ known at-y at-t at-a at-p at-s at-r loads freed =
             traces 𝓤 H A at-mem run W f is-f C Λ fm known-trace (i + 2) l₁ lt _ _ _ _ (λ Γ st sp f. from ! f) at-t (λ t w e.
             -- [what the trace owns; the trace; the fields; the room; the tally; pointer, slice and tally again; the answer; the result; the tokens; what was lent; …]
@@ -305,7 +306,7 @@ module _ {M : Type 1} (𝓤 : URA M) (H : Heap 𝓤) (A : Atoms 𝓤) (at-mem : 
             forget ! 3 refl $ forget ! 4 refl $ forget ! 5 refl $ forget ! 6 refl $ forget ! 7 refl $ forget ! 8 refl $ forget ! 9 refl $ forget ! 10 refl $ forget ! 11 refl $ forget ! 18 refl $ forget ! 20 refl $
             move ! (11 ∷ 24 ∷ 4 ∷ 23 ∷ 5 ∷ 22 ∷ 20 ∷ 21 ∷ 18 ∷ 19 ∷ 6 ∷ 17 ∷ 3 ∷ 16 ∷ 10 ∷ 15 ∷ 7 ∷ 14 ∷ 8 ∷ 13 ∷ 9 ∷ 12 ∷ []) $ free1 ! $ free1 ! $ free1 ! $ free1 ! $ free1 ! $ free1 ! $ free1 ! $ free1 ! $ free1 ! $ free1 ! $ free1 ! $ free0 ! $ by ! (exits at-tick n t r c z e g)))))))))))))
 
-  module _ (W : Given 𝓤 H A) (𝓣 : Tables 𝓤 H) (known-trace : Triple 𝓤 (𝓣 .C #plain·trace_of) (Traces 𝓤 H A at-mem run)) (known-reply : Triple 𝓤 (𝓣 .C #plain·replying) Replies) where
+  module _ (W : Given 𝓤 H A) (𝓣 : Tables 𝓤 H) (known-trace : Triple 𝓤 (𝓣 .C #fields·trace_of) (Traces 𝓤 H A at-mem run)) (known-reply : Triple 𝓤 (𝓣 .C #plain·replying) Replies) where
     meets : (h : Reading) → Triple 𝓤 (𝓣 .C (reading h)) (Core h) → Meets 𝓤 H A (T-of h .signature) (WpFn 𝓤 H (𝓣 .C) (𝓣 .Λ) (function h)) (closing 𝓤 H A (T-of h) (clauses h))
     meets in-order known = walk-meets 𝓤 H A (T-of in-order) (stayed in-order) W (goes-handed 𝓤 H A W 2 (slots in-order) (kept in-order)) (clauses in-order) (WpFn 𝓤 H (𝓣 .C) (𝓣 .Λ) (function in-order)) (WpFn-mono 𝓤 H (W .laws) 𝓣 (function in-order))
         (walked 𝓤 H A (T-of in-order) (stayed in-order) (clauses in-order) (WpFn 𝓤 H (𝓣 .C) (𝓣 .Λ) (function in-order))
@@ -326,13 +327,13 @@ module _ {M : Type 1} (𝓤 : URA M) (H : Heap 𝓤) (𝓜 : Model 𝓤 H) (𝓖
   core-met at-tick = late-thm.met 𝓤 H 𝓜 𝓖 𝓡
 
   -- the walk is of any code that calls the reading with the arguments
-  pub met : (h : Reading) (xs : List Operand) (γ : Names) (k : Name) → Closed 𝓤 H (tables 𝓤 H 𝓜 𝓡 γ .C) (tables 𝓤 H 𝓜 𝓡 γ .Λ) k (code-of h xs) → γ #plain·trace_of ≡ trace-of-def.routine → γ (reading h) ≡ routine h → γ #plain·replying ≡ replies-def.routine → xs ≡ called h
+  pub met : (h : Reading) (xs : List Operand) (γ : Names) (k : Name) → Closed 𝓤 H (tables 𝓤 H 𝓜 𝓡 γ .C) (tables 𝓤 H 𝓜 𝓡 γ .Λ) k (code-of h xs) → γ #fields·trace_of ≡ trace-of-def.routine → γ (reading h) ≡ routine h → γ #plain·replying ≡ replies-def.routine → xs ≡ called h
       → Meets 𝓤 H (𝓖 .A) (T-of h .signature) (𝓡 .run (γ k)) (closing 𝓤 H (𝓖 .A) (T-of h) (clauses 𝓤 H (𝓖 .A) (𝓜 .mem) (𝓡 .run) h))
   unfolding tablesOf
   met h xs γ k closed d e f are =
       entered 𝓤 H (tripleOf 𝓤 H (𝓖 .A) (T-of h .signature) (closing 𝓤 H (𝓖 .A) (T-of h) (clauses 𝓤 H (𝓖 .A) (𝓜 .mem) (𝓡 .run) h))) (tables 𝓤 H 𝓜 𝓡 γ .C) (tables 𝓤 H 𝓜 𝓡 γ .Λ) k (function h)
       (subst (λ (ys : List Operand). Closed 𝓤 H (tables 𝓤 H 𝓜 𝓡 γ .C) (tables 𝓤 H 𝓜 𝓡 γ .Λ) k (code-of h ys)) are closed)
       (meets 𝓤 H (𝓖 .A) (𝓜 .mem) (𝓡 .run) (givenOf 𝓤 H 𝓜 𝓖) (tablesOf 𝓤 H 𝓜 (tables 𝓤 H 𝓜 𝓡 γ))
-      (cited 𝓤 H (Traces 𝓤 H (𝓖 .A) (𝓜 .mem) (𝓡 .run)) 𝓜 𝓡 γ #plain·trace_of trace-of-def.routine d (trace-of-thm.met 𝓤 H 𝓜 𝓖 𝓡))
+      (cited 𝓤 H (Traces 𝓤 H (𝓖 .A) (𝓜 .mem) (𝓡 .run)) 𝓜 𝓡 γ #fields·trace_of trace-of-def.routine d (trace-of-thm.met 𝓤 H 𝓜 𝓖 𝓡))
       (cited 𝓤 H (Replies 𝓤 H (𝓖 .A) (𝓜 .mem) (𝓡 .run)) 𝓜 𝓡 γ #plain·replying replies-def.routine f (replies-thm.met 𝓤 H 𝓜 𝓖 𝓡)) h
       (cited 𝓤 H (Core 𝓤 H (𝓖 .A) (𝓜 .mem) (𝓡 .run) h) 𝓜 𝓡 γ (reading h) (routine h) e (core-met h)))

@@ -60,7 +60,7 @@ pub fn line_ended(f: Feeding, t: Trace, room: &mut [i64], line: &[u8]) -> Feedin
     too_long(f)
 }
 
-pub fn byte(f: Feeding, room: &mut [i64], line: &mut [u8], b: u8) -> Feeding
+pub fn byte(mut f: Feeding, room: &mut [i64], line: &mut [u8], b: u8) -> Feeding
     ensures { λ r. ⌜ (r, (now (room .exit), now (line .exit))) ≡ byteFed (f .last) f (now (room .entry)) (now (line .entry)) b ⌝ }
 {
     let last = f.last;
@@ -72,14 +72,9 @@ pub fn byte(f: Feeding, room: &mut [i64], line: &mut [u8], b: u8) -> Feeding
     }
     let filled = f.filled;
     if filled < line.len() {
-        let stage = f.stage;
         line[filled] = b;
-        return Feeding {
-            last,
-            stage,
-            lines: f.lines,
-            filled: filled + 1,
-        };
+        f.filled = filled + 1;
+        return f;
     }
     too_long(f)
 }

@@ -1,2 +1,2 @@
--- The state as plain fields, and each answer as a plain record.
+-- Each answer as a plain record.
 pub mod Plain

@@ -1,12 +1,8 @@
--- The state as plain fields, and each answer as a plain record: refusal 0 where the call was accepted, else document 01's number and place.
-use Prim.Native.Nat.{ℕ, zero, suc}
+-- Each answer as a plain record: refusal 0 where the call was accepted, else document 01's number and place.
+use Prim.Native.Nat.{ℕ}
 use mathlib.Core.List.{List}
 use lib.IntN.{ℤ, pos}
 use Rattle.rule.specs.declared.Bucket.{Bucket}
-use Rattle.rule.specs.declared.Kind.{Kind}
-use Rattle.rule.specs.declared.Kind.the-variants.{InOrder, Late}
-use Rattle.rule.specs.declared.Settings.{Settings}
-use Rattle.rule.specs.declared.State.{State}
 use Rattle.rule.specs.declared.Found.{Found}
 use Rattle.rule.specs.declared.Tally.{Tally}
 use Rattle.rule.specs.declared.Written.{Written}
@@ -16,34 +12,13 @@ use Rattle.trace.specs.Answers.{answered}
 use Rattle.trace.specs.declared.Answer.{Answer}
 use Rattle.worst.specs.declared.Measured.{Measured}
 use Rattle.worst.specs.Outcome.{worstOutcome}
-use Rattle.plain.specs.declared.Named.{Named}
-use Rattle.plain.specs.declared.Fields.{Fields}
+use Rattle.fields.specs.declared.Named.{Named}
+use Rattle.fields.specs.declared.Fields.{Fields}
+use Rattle.fields.specs.States.{fieldsOf, none, settingsOf, stateFrom}
 use Rattle.plain.specs.declared.Reply.{Reply}
 use Rattle.plain.specs.declared.Shown.{Shown}
 use Rattle.plain.specs.declared.Counted.{Counted}
 use Rattle.plain.specs.declared.WorstError.{WorstError}
-
--- 0 is in order, any other number late
-unfoldable pub kindOf : ℕ → Kind
-kindOf zero = InOrder
-kindOf (suc n) = Late
-
-unfoldable pub numberOf : Kind → ℕ
-numberOf InOrder = 0
-numberOf Late = 1
-
-abbrev pub settingsOf : Named → Settings
-settingsOf named = record { kind = kindOf (named .kind); steps = named .steps; gaps = named .gaps }
-
-abbrev pub stateFrom : Fields → State
-stateFrom f = record { settings = settingsOf (record { kind = f .kind; steps = f .steps; gaps = f .gaps }); used = f .used; runs = f .runs; readings = f .readings }
-
-abbrev pub fieldsOf : State → Fields
-fieldsOf s = record { kind = numberOf (s .settings .kind); steps = s .settings .steps; gaps = s .settings .gaps; used = s .used; runs = s .runs; readings = s .readings }
-
--- the state that a refused open or load answers: no call accepts it
-abbrev pub none : Fields
-none = record { kind = 0; steps = 0; gaps = 0; used = 0; runs = 0; readings = 0 }
 
 -- accepted: the next state; refused: the state that was given
 unfoldable pub replying : Fields → Answer → Reply

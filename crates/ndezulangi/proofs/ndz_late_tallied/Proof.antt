@@ -8,4 +8,4 @@ use Rattle.ndezulangi.proofs.ndz_late_tallied.Code as code
 
 pub ndz-late-tallied-spec : {M : Type 1} → stated.statement M
 unfolding code.routine
-ndz-late-tallied-spec 𝓤 H 𝓜 𝓖 𝓡 = met 𝓤 H 𝓜 𝓖 𝓡 at-tick _ code.env #ndezulangi·ndz_late_tallied (code.unfolded 𝓤 H 𝓜 𝓡) code.calls-plain·trace-of code.calls-tally·late code.calls-plain·replying refl
+ndz-late-tallied-spec 𝓤 H 𝓜 𝓖 𝓡 = met 𝓤 H 𝓜 𝓖 𝓡 at-tick _ code.env #ndezulangi·ndz_late_tallied (code.unfolded 𝓤 H 𝓜 𝓡) code.calls-fields·trace-of code.calls-tally·late code.calls-plain·replying refl

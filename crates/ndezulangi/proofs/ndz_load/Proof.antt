@@ -1,7 +1,8 @@
 -- `ndezulangi::ndz_load` meets its contract: what the call ensures, as plain fields.
 use borrow.Author.Needs.{needs}
 use mathlib.Core.Path.{ap}
-use Rattle.plain.specs.Plain.{none, replied}
+use Rattle.fields.specs.States.{none}
+use Rattle.plain.specs.Plain.{replied}
 use Rattle.ndezulangi.proofs.ndz_load.Statement.{statement}
 use Rattle.ndezulangi.proofs.ndz_load.Tie as tie
 

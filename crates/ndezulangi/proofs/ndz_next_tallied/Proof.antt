@@ -8,4 +8,4 @@ use Rattle.ndezulangi.proofs.ndz_next_tallied.Code as code
 
 pub ndz-next-tallied-spec : {M : Type 1} → stated.statement M
 unfolding code.routine
-ndz-next-tallied-spec 𝓤 H 𝓜 𝓖 𝓡 = met 𝓤 H 𝓜 𝓖 𝓡 in-order _ code.env #ndezulangi·ndz_next_tallied (code.unfolded 𝓤 H 𝓜 𝓡) code.calls-plain·trace-of code.calls-tally·next code.calls-plain·replying refl
+ndz-next-tallied-spec 𝓤 H 𝓜 𝓖 𝓡 = met 𝓤 H 𝓜 𝓖 𝓡 in-order _ code.env #ndezulangi·ndz_next_tallied (code.unfolded 𝓤 H 𝓜 𝓡) code.calls-fields·trace-of code.calls-tally·next code.calls-plain·replying refl

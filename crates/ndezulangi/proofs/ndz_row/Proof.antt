@@ -7,4 +7,4 @@ use Rattle.ndezulangi.proofs.ndz_row.Code as code
 
 pub ndz-row-spec : {M : Type 1} → stated.statement M
 unfolding code.routine
-ndz-row-spec 𝓤 H 𝓜 𝓖 𝓡 = met 𝓤 H 𝓜 𝓖 𝓡 _ code.env #ndezulangi·ndz_row (code.unfolded 𝓤 H 𝓜 𝓡) code.calls-plain·trace-of code.calls-row·row code.calls-plain·telling refl
+ndz-row-spec 𝓤 H 𝓜 𝓖 𝓡 = met 𝓤 H 𝓜 𝓖 𝓡 _ code.env #ndezulangi·ndz_row (code.unfolded 𝓤 H 𝓜 𝓡) code.calls-fields·trace-of code.calls-row·row code.calls-plain·telling refl

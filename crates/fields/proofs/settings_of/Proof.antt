@@ -1,7 +1,7 @@
--- `plain::settings_of` meets its contract.
+-- `fields::settings_of` meets its contract.
 use borrow.Author.Needs.{needs}
-use Rattle.plain.proofs.settings_of.Statement.{statement}
-use Rattle.plain.proofs.settings_of.Tie as tie
+use Rattle.fields.proofs.settings_of.Statement.{statement}
+use Rattle.fields.proofs.settings_of.Tie as tie
 
 pub settings-of-spec : {M : Type 1} → statement M
 settings-of-spec =

@@ -1,8 +1,8 @@
--- `plain::number_of` meets its contract: its arms are those of the definition.
+-- `fields::number_of` meets its contract: its arms are those of the definition.
 use borrow.Author.Needs.{needs}
-use Rattle.plain.specs.Plain.{numberOf}
-use Rattle.plain.proofs.number_of.Statement.{statement}
-use Rattle.plain.proofs.number_of.Tie as tie
+use Rattle.fields.specs.States.{numberOf}
+use Rattle.fields.proofs.number_of.Statement.{statement}
+use Rattle.fields.proofs.number_of.Tie as tie
 
 returns : tie.Need-returns
 unfolding numberOf

@@ -1,7 +1,7 @@
--- `plain::fields_of` meets its contract.
+-- `fields::fields_of` meets its contract.
 use borrow.Author.Needs.{needs}
-use Rattle.plain.proofs.fields_of.Statement.{statement}
-use Rattle.plain.proofs.fields_of.Tie as tie
+use Rattle.fields.proofs.fields_of.Statement.{statement}
+use Rattle.fields.proofs.fields_of.Tie as tie
 
 pub fields-of-spec : {M : Type 1} → statement M
 fields-of-spec =

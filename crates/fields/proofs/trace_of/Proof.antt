@@ -1,7 +1,7 @@
--- `plain::trace_of` meets its contract.
+-- `fields::trace_of` meets its contract.
 use borrow.Author.Needs.{needs}
-use Rattle.plain.proofs.trace_of.Statement.{statement}
-use Rattle.plain.proofs.trace_of.Tie as tie
+use Rattle.fields.proofs.trace_of.Statement.{statement}
+use Rattle.fields.proofs.trace_of.Tie as tie
 
 pub trace-of-spec : {M : Type 1} → statement M
 trace-of-spec =

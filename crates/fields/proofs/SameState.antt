@@ -5,8 +5,8 @@ use native.Mathlib.Omega.{arith}
 use Rattle.rule.specs.declared.Kind.{Kind}
 use Rattle.rule.specs.declared.Kind.the-variants.{InOrder, Late}
 use Rattle.rule.specs.declared.State.{State}
-use Rattle.plain.specs.declared.Fields.{Fields}
-use Rattle.plain.specs.Plain.{fieldsOf, kindOf, numberOf, stateFrom}
+use Rattle.fields.specs.declared.Fields.{Fields}
+use Rattle.fields.specs.States.{fieldsOf, kindOf, numberOf, stateFrom}
 
 same-kind : (k : Kind) → kindOf (numberOf k) ≡ k
 unfolding kindOf numberOf

@@ -1,11 +1,11 @@
--- `plain::kind_of` meets its contract.
+-- `fields::kind_of` meets its contract.
 use Prim.Native.Nat.{ℕ, zero, suc, _≤_}
 use mathlib.Core.Path.{_≡_, refl}
 use native.Mathlib.Omega.{arith}
 use Rattle.rule.specs.declared.Kind.{Kind}
-use Rattle.plain.specs.Plain.{kindOf}
-use Rattle.plain.proofs.kind_of.Statement.{statement}
-use Rattle.plain.proofs.kind_of.Tie as tie
+use Rattle.fields.specs.States.{kindOf}
+use Rattle.fields.proofs.kind_of.Statement.{statement}
+use Rattle.fields.proofs.kind_of.Tie as tie
 
 returns : tie.Need-returns
 unfolding kindOf

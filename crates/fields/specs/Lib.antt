@@ -1,0 +1,2 @@
+-- The state as plain fields.
+pub mod States

@@ -41,7 +41,7 @@ int main(void)
     int64_t worst = 0;
     for (uint64_t i = 0; i < trace.state.used; i++) {
         const int64_t *b = room + NDZ_SLOT * i;
-        int64_t level = (b[2] + b[3]) / 2, error = b[3] - level > level - b[2] ? b[3] - level : level - b[2];
+        int64_t sum = b[2] + b[3], level = (sum - (sum < 0)) / 2, error = b[3] - level > level - b[2] ? b[3] - level : level - b[2];
         if (error > worst)
             worst = error;
         printf("%" PRId64 " %" PRId64 " %" PRId64 " %" PRId64 " %" PRId64 "\n", b[0], b[1], b[2], b[3], level);

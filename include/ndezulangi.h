@@ -163,7 +163,9 @@ ndz_worst_error ndz_worst(ndz_state state, const int64_t *room, size_t numbers);
  * Refuses: NDZ_UNSOUND, NDZ_SHORT (`out` has fewer places than there are buckets; NDZ_MOST_BUCKETS are always enough). */
 ndz_written ndz_row(ndz_state state, const int64_t *room, size_t numbers, ndz_bucket *out, size_t places);
 
-/* Level and error of a bucket. */
+/* Level and error of a bucket: half the sum of least and largest, rounded down (toward minus infinity), and how far the
+ * farther of the two is from it. A number added to both, where both still fit 32 bits, moves the level by that number and
+ * leaves the error. */
 int32_t ndz_level(ndz_bucket bucket);
 uint32_t ndz_error(ndz_bucket bucket);
 

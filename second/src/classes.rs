@@ -27,6 +27,7 @@ pub fn classes(input: &[u8]) -> io::Result<Vec<String>> {
                 number(buckets)?,
             ));
             found.extend(of_cuts(input));
+            found.extend(of_sums(&output)?);
         }
         _ => return Err(io::Error::other("neither a listing nor a refusal")),
     }
@@ -34,6 +35,10 @@ pub fn classes(input: &[u8]) -> io::Result<Vec<String>> {
 }
 
 fn number(word: &str) -> io::Result<u64> {
+    word.parse().map_err(io::Error::other)
+}
+
+fn signed(word: &str) -> io::Result<i64> {
     word.parse().map_err(io::Error::other)
 }
 
@@ -114,6 +119,21 @@ fn of_no_header(output: &str, readings: u64) -> Vec<String> {
         found.push("no header: negative readings".to_string());
     }
     found
+}
+
+/// A line for each row whose sum of least and largest is odd: a level is rounded there, below 0 and above it.
+fn of_sums(output: &str) -> io::Result<Vec<String>> {
+    let mut found = Vec::new();
+    for row in output.lines() {
+        if let [_, _, least, largest, _] = row.split(' ').collect::<Vec<_>>()[..] {
+            let sum = signed(least)? + signed(largest)?;
+            if sum % 2 != 0 {
+                let sign = if sum < 0 { "negative" } else { "positive" };
+                found.push(format!("row of a {sign} odd sum"));
+            }
+        }
+    }
+    Ok(found)
 }
 
 /// Where the end of a read cuts a line of the longest that are read, by the bytes of the line before the cut.

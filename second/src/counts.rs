@@ -53,6 +53,7 @@ impl Counts {
                 }
             }
             Word::NextTold | Word::LateTold => self.told(&before, &session.tally),
+            Word::Lookup => self.looked_up(answer),
             _ => {}
         }
         if session.lent > MOST_NUMBERS {
@@ -92,6 +93,24 @@ impl Counts {
         }
         if least == i32::MIN && largest == i32::MAX {
             self.count("bucket of the whole range");
+        }
+        if command.word == Word::Level {
+            self.sum("level", i64::from(least), i64::from(largest));
+        }
+    }
+
+    fn looked_up(&mut self, answer: &Answer) {
+        if let Answer::Found(Ok(held)) = answer {
+            self.sum("lookup", held.least, held.largest);
+        }
+    }
+
+    /// Levels of negative odd sums are where rounding down is not cutting toward zero, those of positive ones where it is.
+    fn sum(&mut self, what: &str, least: i64, largest: i64) {
+        let sum = least + largest;
+        if sum % 2 != 0 {
+            let sign = if sum < 0 { "negative" } else { "positive" };
+            self.count(&format!("{what} of a {sign} odd sum"));
         }
     }
 
@@ -179,6 +198,10 @@ pub fn wanted() -> Met {
         ("bucket at the lower end", 50),
         ("bucket at the upper end", 50),
         ("bucket of the whole range", 2),
+        ("level of a negative odd sum", 500),
+        ("level of a positive odd sum", 500),
+        ("lookup of a negative odd sum", 500),
+        ("lookup of a positive odd sum", 500),
         ("tally accepted at its stop", 50),
         ("tally refused at its stop", 50),
         ("tally merges at its stop", 50),

@@ -1,4 +1,4 @@
--- Inputs worked by hand: document 01's, inputs of which a line is refused, one without a last line feed, and a late trace whose readings arrive in order.
+-- Inputs worked by hand: document 01's, inputs of which a line is refused, one without a last line feed, a level that is rounded below 0, and a late trace whose readings arrive in order.
 use Prim.Native.String.{String}
 use mathlib.Core.Path.{_≡_}
 use mathlib.Core.List.{List, [], _∷_, map}
@@ -35,6 +35,7 @@ outputs =
     ∷ ("5\r\n", "refused 1 14\n")
     ∷ ("16777216 1\n", "refused 1 14\n")
     ∷ ("late 1\n0 -5\n", "0 1 -5 -5 -5\ntotal 1 1 0\n")
+    ∷ ("steps 1\n-3\n0\n9\n", "0 2 -3 0 -2\n2 1 9 9 9\ntotal 3 2 2\n")
     ∷ ("steps 257\n", "refused 1 1\n")
     ∷ ("steps 256\nlate 256\n", "total 0 0 0\n")
     ∷ []

@@ -10,11 +10,16 @@ pub fn distance(a: i32, b: i32) -> u32
     if d < 0 { (-d) as u32 } else { d as u32 }
 }
 
-// Half the sum of two readings, widened so that no sum wraps, cut toward zero.
+// Half the sum of two readings, widened so that no sum wraps, rounded down.
 pub fn middle(a: i32, b: i32) -> i32
     ensures { λ r. ⌜ r ≡ middle a b ⌝ }
 {
-    ((a as i64 + b as i64) / 2) as i32
+    let s = a as i64 + b as i64;
+    if s < 0 {
+        ((s - 1) / 2) as i32
+    } else {
+        (s / 2) as i32
+    }
 }
 
 pub fn lesser(a: i32, b: i32) -> i32

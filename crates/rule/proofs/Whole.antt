@@ -9,7 +9,7 @@ use lib.IntN.{ℤ, pos, negsuc, negℤ, natAbs, subℕ, _+ℤ_, _-ℤ_}
 use lib.Signed.{leZ, ltZ, quotZ}
 use mir.Syntax.{Width}
 use mir.Val.{SFits, hbits}
-use Rattle.rule.specs.Bucket.{distance, middle}
+use Rattle.rule.specs.Bucket.{distance, halved, middle}
 
 abbrev pub up : ℤ → ℕ
 up (pos n) = n
@@ -140,18 +140,27 @@ pub distance-is : (a b : ℤ) → distance a b ≡ ((up a + down b) - (up b + do
 unfolding distance
 distance-is a b = omega (arith, abs (a -ℤ b), difference a b, one-side (a -ℤ b))
 
-halves-up : (z : ℤ) → up (quotZ z (pos 2)) ≡ up z / 2
-halves-up (pos n) = refl
-halves-up (negsuc n) = up-negated (pos (suc n / 2)) ∙ omega arith
+-- a division cuts toward zero
+pub cut-up : (z : ℤ) → up (quotZ z (pos 2)) ≡ up z / 2
+cut-up (pos n) = refl
+cut-up (negsuc n) = up-negated (pos (suc n / 2)) ∙ omega arith
 
-halves-down : (z : ℤ) → down (quotZ z (pos 2)) ≡ down z / 2
-halves-down (pos n) = omega arith
-halves-down (negsuc n) = down-negated (pos (suc n / 2))
+pub cut-down : (z : ℤ) → down (quotZ z (pos 2)) ≡ down z / 2
+cut-down (pos n) = omega arith
+cut-down (negsuc n) = down-negated (pos (suc n / 2))
+
+halved-up : (z : ℤ) → up (halved z) ≡ up z / 2
+halved-up (pos n) = refl
+halved-up (negsuc n) = omega arith
+
+halved-down : (z : ℤ) → down (halved z) ≡ (down z + 1) / 2
+halved-down (pos n) = omega arith
+halved-down (negsuc n) = omega arith
 
 pub middle-up : (a b : ℤ) → up (middle a b) ≡ up (a +ℤ b) / 2
 unfolding middle
-middle-up a b = halves-up (a +ℤ b)
+middle-up a b = halved-up (a +ℤ b)
 
-pub middle-down : (a b : ℤ) → down (middle a b) ≡ down (a +ℤ b) / 2
+pub middle-down : (a b : ℤ) → down (middle a b) ≡ (down (a +ℤ b) + 1) / 2
 unfolding middle
-middle-down a b = halves-down (a +ℤ b)
+middle-down a b = halved-down (a +ℤ b)

@@ -1,9 +1,9 @@
 -- The bucket of document 01: its end, spread, level and error, the union of two, and when two are neighbours.
-use Prim.Native.Nat.{ℕ, _+_, max}
+use Prim.Native.Nat.{ℕ, _+_, _/_, max}
 use mathlib.Core.Bool.{Bool, cond}
 use lib.Dec.{eqb}
-use lib.IntN.{ℤ, pos, natAbs, _+ℤ_, _-ℤ_}
-use lib.Signed.{leZ, quotZ}
+use lib.IntN.{ℤ, pos, negsuc, natAbs, _+ℤ_, _-ℤ_}
+use lib.Signed.{leZ}
 use Rattle.rule.specs.declared.Bucket.{Bucket}
 
 -- how far apart two readings, or a reading and a level, are
@@ -18,9 +18,14 @@ end b = b .start + b .count
 abbrev pub spread : Bucket → ℕ
 spread b = distance (b .largest) (b .least)
 
--- half the sum of two readings, the fraction cut off toward zero
+-- half a whole number, rounded toward minus infinity; `negsuc n` is the number below 0 by n + 1
+abbrev pub halved : ℤ → ℤ
+halved (pos n) = pos (n / 2)
+halved (negsuc n) = negsuc (n / 2)
+
+-- half the sum of two readings, rounded down
 unfoldable pub middle : ℤ → ℤ → ℤ
-middle a b = quotZ (a +ℤ b) (pos 2)
+middle a b = halved (a +ℤ b)
 
 abbrev pub level : Bucket → ℤ
 level b = middle (b .least) (b .largest)

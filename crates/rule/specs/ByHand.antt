@@ -1,4 +1,4 @@
--- The traces worked by hand in document 01, H1 to H12, as one table: what the calls answer and leave in a room of one number more than is needed.
+-- The traces worked by hand in document 01, H1 to H12 (H6 and H7 with their levels rounded down), as one table: what the calls answer and leave in a room of one number more than is needed.
 use Prim.Native.Nat.{ℕ, _*_, suc}
 use mathlib.Core.Path.{_≡_}
 use mathlib.Core.List.{List, [], _∷_, _++_}
@@ -104,9 +104,9 @@ pub record ByHand : Type 0 where
   pub h4 : feed (pos 5 ∷ pos 5 ∷ pos 5 ∷ []) (start (inOrder 1)) ≡ leaves (inOrder 1) (bucket 0 2 (pos 5) (pos 5) ∷ bucket 2 1 (pos 5) (pos 5) ∷ []) 2 1 3 1
   pub h5 : feed (pos 0 ∷ pos 5 ∷ pos 9 ∷ pos 14 ∷ pos 18 ∷ []) (start (inOrder 2)) ≡ leaves (inOrder 2) (bucket 0 1 (pos 0) (pos 0) ∷ bucket 1 2 (pos 5) (pos 9) ∷ bucket 3 1 (pos 14) (pos 14) ∷ bucket 4 1 (pos 18) (pos 18) ∷ []) 4 1 5 1
   pub h5-worst : worstOf (feed (pos 0 ∷ pos 5 ∷ pos 9 ∷ pos 14 ∷ pos 18 ∷ []) (start (inOrder 2))) ≡ 2
-  pub h6-level : level (bucket 0 2 (negsuc 2) (pos 0)) ≡ negsuc 0
+  pub h6-level : level (bucket 0 2 (negsuc 2) (pos 0)) ≡ negsuc 1
   pub h6-error : error (bucket 0 2 (negsuc 2) (pos 0)) ≡ 2
-  pub h7-level : level (bucket 0 2 (negsuc 2147483647) (pos 2147483647)) ≡ pos 0
+  pub h7-level : level (bucket 0 2 (negsuc 2147483647) (pos 2147483647)) ≡ negsuc 0
   pub h7-error : error (bucket 0 2 (negsuc 2147483647) (pos 2147483647)) ≡ 2147483648
   pub h8 : feedLate ((0, pos 1) ∷ (1, pos 4) ∷ (2, pos 2) ∷ (3, pos 9) ∷ (6, pos 2) ∷ (5, pos 3) ∷ (4, pos 8) ∷ []) (start (gappy 1 2)) ≡ listed
   pub h8-worst : worstOf listed ≡ 2

@@ -52,10 +52,10 @@ fn h5_two_steps() {
 }
 
 #[test]
-fn h6_a_level_below_zero_is_cut_toward_zero() {
+fn h6_a_level_below_zero_is_rounded_down() {
     let trace = Trace::in_order(1, &[-3, 0, 100]);
     let held = Held {
-        level: -1,
+        level: -2,
         error: 2,
         least: -3,
         largest: 0,
@@ -67,7 +67,7 @@ fn h6_a_level_below_zero_is_cut_toward_zero() {
 fn h7_the_whole_range_in_one_bucket() {
     let trace = Trace::in_order(1, &[i32::MIN, i32::MAX, i32::MIN]);
     let held = Held {
-        level: 0,
+        level: -1,
         error: 2_147_483_648,
         least: -2_147_483_648,
         largest: 2_147_483_647,

@@ -207,7 +207,7 @@ fn level_and_error_are_told_alone() {
     let script = "level least=-3 largest=0\nerror least=-3 largest=0\nlevel least=-2147483648 largest=2147483647\nerror least=-2147483648 largest=2147483647\n";
     assert_eq!(
         told::lines(script),
-        "level -1\nerror 2\nlevel 0\nerror 2147483648\n"
+        "level -2\nerror 2\nlevel -1\nerror 2147483648\n"
     );
 }
 

@@ -15,7 +15,7 @@ fn listing_of(trace: &Trace) -> String {
     let buckets = trace.buckets();
     let mut lines = String::new();
     for bucket in &buckets {
-        let level = (bucket.least + bucket.largest) / 2;
+        let level = (bucket.least + bucket.largest) >> 1;
         lines += &format!(
             "{} {} {} {} {level}\n",
             bucket.start, bucket.count, bucket.least, bucket.largest
@@ -44,7 +44,7 @@ fn what_is_read() {
         ("late 1\n16777215 5\n", "16777215 1 5 5 5\ntotal 1 1 0\n"),
         (
             "steps 1\n-2147483648\n2147483647\n-2147483648\n",
-            "0 2 -2147483648 2147483647 0\n\
+            "0 2 -2147483648 2147483647 -1\n\
              2 1 -2147483648 -2147483648 -2147483648\n\
              total 3 2 2147483648\n",
         ),
@@ -167,7 +167,15 @@ fn classes_are_read_off_the_input() {
     for (input, found) in [
         ("", "whole"),
         ("steps 1\n1\n2\n", "whole"),
-        ("steps 1\n1\n2\n3\n", "whole, merged: steps 1"),
+        (
+            "steps 1\n1\n2\n3\n",
+            "whole, merged: steps 1, row of a positive odd sum",
+        ),
+        (
+            "steps 1\n-3\n0\n9\n",
+            "whole, merged: steps 1, row of a negative odd sum",
+        ),
+        ("steps 1\n-3\n1\n9\n", "whole, merged: steps 1"),
         (
             "steps 1\nlate 1\n0 1\n1 2\n2 4\n3 4",
             "last line without a line feed, whole, merged: steps 1, late 1",

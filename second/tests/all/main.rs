@@ -6,6 +6,7 @@ mod files;
 mod hand;
 mod language;
 mod lines;
+mod offset;
 mod refusals;
 mod round_trips;
 mod script;

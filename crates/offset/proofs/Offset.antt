@@ -1,0 +1,371 @@
+-- Two callers whose readings differ by one number get the same answers, moved, and what they have stays alike.
+use Prim.Native.Nat.{ℕ, zero, suc, _+_, _*_}
+use mathlib.Core.Path.{_≡_, refl, sym, ap, subst, _∙_}
+use mathlib.Core.Bool.{true, not}
+use mathlib.Core.List.{List, [], _∷_, _++_, map}
+use mathlib.Core.Option.{Option, some, none}
+use native.Mathlib.Omega.{arith}
+use lib.Dec.{leb}
+use lib.IntN.{ℤ, pos, _+ℤ_}
+use lib.ListN.{length, drop, getD}
+use lib.Seq.{take-at}
+use lib.Signed.{leZ}
+use Rattle.rule.specs.declared.Bucket.{Bucket}
+use Rattle.rule.specs.declared.Found.{Found}
+use Rattle.rule.specs.declared.Refusal.{Refusal}
+use Rattle.rule.specs.declared.Settings.{Settings}
+use Rattle.rule.specs.declared.State.{State}
+use Rattle.rule.specs.declared.Tally.{Tally}
+use Rattle.rule.specs.declared.Written.{Written}
+use Rattle.rule.specs.Bucket.{level}
+use Rattle.rule.specs.Bytes.{bits, bytes, recordsOf, saved, savedRecord}
+use Rattle.rule.specs.Calls.{Check, Verdict, refused, accepted, admitted, checked, counted, fileVerdict, found, foundOf, isHeld, kept as keptAs, lateVerdict, loadVerdict, loaded, lookupOutcome, nextVerdict, stateOf, traced, writeVerdict, wrote}
+use Rattle.rule.specs.Numbers.{recordWidth, ticks}
+use Rattle.rule.specs.Room.{laid, roomy, slots, sound, tableOf}
+use Rattle.rule.specs.Table.{Table, holding, insert, needed, nextTick, runs, single}
+use Rattle.rule.proofs.Signed.{signed-fits}
+use Rattle.rule.specs.Rules.{ruled}
+use Rattle.rule.proofs.Errors.{error-is-half}
+use Rattle.rule.proofs.Fitting.{Fitted}
+use Rattle.rule.proofs.Whole.{whole, by-test, middle-down, middle-up, one-side, sum}
+use Rattle.record.proofs.RoundTrip.{length-saved, records-saved}
+use Rattle.room.proofs.Sounding.{sound-facts}
+use Rattle.row.proofs.Filling.{write-either}
+use Rattle.slots.proofs.Fitting.{fitted-slots}
+use Rattle.slots.proofs.Laying.{slots-laid}
+use Rattle.saved.specs.Bytes.{AllBytes}
+use Rattle.saved.proofs.RoundTrips.{load-sound}
+use Rattle.session.specs.Session.{onward}
+use Rattle.trace.specs.Left.{LeavesSound, LeftBy}
+use Rattle.trace.proofs.Leaving.{late-leaves, next-leaves, open-leaves}
+use Rattle.worst.specs.Outcome.{worstOutcome}
+use Rattle.offset.specs.Caller as caller
+use Rattle.offset.specs.Caller.{Answer, Call, Caller, after, answer, answers, begun, fed, fileAt, idle, kept, left, part}
+use Rattle.offset.specs.Offset.{AllFit, AllHigher, Alike, FileMoved, FilesMoved, Fits, Higher, Offset, each, higher, lates-too, loads-too, lookups-too, movedAll, movedAnswer, movedFound, nexts-too, none as no-more, opens-too, rows-too, saves-too, worsts-too}
+use Rattle.offset.proofs.Moved.{accept-moved, error-moved, first-fault-moved, holding-moved, insert-moved, last-end-moved, length-moved, level-moved, movedHeld, readings-moved, runs-moved, worst-moved}
+
+-- what is saved is bytes
+word-bytes : (n : ℕ) (rest : List ℕ) → AllBytes rest → AllBytes (bytes n ++ rest)
+unfolding bytes
+word-bytes n rest h zero = omega arith
+word-bytes n rest h (suc zero) = omega arith
+word-bytes n rest h (suc (suc zero)) = omega arith
+word-bytes n rest h (suc (suc (suc zero))) = omega arith
+word-bytes n rest h (suc (suc (suc (suc i)))) = h i
+
+saved-bytes : (t : Table) → AllBytes (saved t)
+unfolding saved savedRecord bytes
+saved-bytes [] i = omega arith
+saved-bytes (b ∷ t) i =
+    let largest = bytes (bits (b .largest)) ++ saved t in
+    let least = bytes (bits (b .least)) ++ largest in
+    let count = bytes (b .count) ++ least in
+    word-bytes (b .start) count (word-bytes (b .count) least (word-bytes (bits (b .least)) largest (word-bytes (bits (b .largest)) (saved t) (saved-bytes t)))) i
+
+-- an accepted load of bytes leaves a sound trace
+load-left : (g : Settings) (f : List ℕ) (l : List ℤ) → AllBytes f → (v : Verdict State) → loaded g f l .0 ≡ v → LeftBy v (loaded g f l .1)
+unfolding LeftBy
+load-left g f l known (refused r) e = tt
+load-left g f l known (accepted t) e = load-sound g f l t known e
+
+load-leaves : (g : Settings) (f : List ℕ) (l : List ℤ) → AllBytes f → LeavesSound (loaded g f l)
+load-leaves g f l known = load-left g f l known (loaded g f l .0) refl
+
+-- what is written of a table is all that a file has
+written-are : (t : Table) (out : List ℕ) → part 16 (Written.Buckets (length t)) (saved t ++ drop (length (saved t)) out) ≡ saved t
+unfolding part
+written-are t out = take-at (saved t) (drop (length (saved t)) out) (16 * length t) (length-saved t)
+
+module _ (d : ℤ) where
+  one-more : {f g : List ℕ} (fs gs : List (List ℕ)) → FileMoved d f g → FilesMoved d fs gs → FilesMoved d (f ∷ fs) (g ∷ gs)
+  one-more fs gs p q zero = p
+  one-more fs gs p q (suc i) = q i
+
+  -- ---- verdicts
+
+  unfoldable movedVerdict : Verdict Table → Verdict Table
+  movedVerdict (refused r) = refused r
+  movedVerdict (accepted t) = accepted (movedAll d t)
+
+  -- the same tests refuse alike
+  checked-moved : (cs : List Check) (v w : Verdict Table) → w ≡ movedVerdict v → checked cs w ≡ movedVerdict (checked cs v)
+  unfolding checked movedVerdict
+  checked-moved [] v w e = e
+  checked-moved (c ∷ cs) v w e = by-test (c .0) (λ h. rw h) (λ h. rw h (checked-moved cs v w e))
+
+  -- where the first test holds, the others are not asked
+  first-refuses : (r : Refusal) (cs ds : List Check) (v w : Verdict Table) → checked ((true, r) ∷ cs) w ≡ movedVerdict (checked ((true, r) ∷ ds) v)
+  unfolding checked movedVerdict
+  first-refuses r cs ds v w = refl
+
+  held-moved : (o : Option Bucket) → isHeld (movedHeld d o) ≡ isHeld o
+  unfolding isHeld movedHeld
+  held-moved none = refl
+  held-moved (some b) = refl
+
+  -- one state, and two rooms, both of them sound or neither: the second holds the buckets of the first, moved
+  record Twin (s : State) (l m : List ℤ) : Type 0 where
+    fit : sound s m ≡ sound s l
+    buckets : sound s l ≡ true → tableOf s m ≡ movedAll d (tableOf s l)
+
+  module _ (s : State) (l m : List ℤ) (a : Twin s l m) where
+    next-moved : (v : ℤ) → nextVerdict s m (v +ℤ d) ≡ movedVerdict (nextVerdict s l v)
+    unfolding nextVerdict movedVerdict
+    next-moved v =
+        let t = tableOf s l in
+        by-test (sound s l)
+        (λ h. rw (a .fit, h, a .buckets h, last-end-moved d 0 t) (checked-moved _ _ _ (ap accepted (accept-moved d (s .settings) t (nextTick t) v))))
+        (λ h. rw (a .fit, h) (first-refuses Refusal.Unsound _ _ _ _))
+
+    late-moved : (tick : ℕ) (v : ℤ) → lateVerdict s m tick (v +ℤ d) ≡ movedVerdict (lateVerdict s l tick v)
+    unfolding lateVerdict movedVerdict
+    late-moved tick v =
+        let t = tableOf s l in
+        let same : runs (insert (single tick (v +ℤ d)) (movedAll d t)) ≡ runs (insert (single tick v) t) = ap runs (insert-moved d (single tick v) t) ∙ runs-moved d (insert (single tick v) t) in
+        by-test (sound s l)
+        (λ h. rw (a .fit, h, a .buckets h, holding-moved d tick t, held-moved (holding tick t), same) (checked-moved _ _ _ (ap accepted (accept-moved d (s .settings) t tick v))))
+        (λ h. rw (a .fit, h) (first-refuses Refusal.Unsound _ _ _ _))
+
+    write-moved : (taken places : ℕ) → writeVerdict s m taken places ≡ movedVerdict (writeVerdict s l taken places)
+    unfolding writeVerdict movedVerdict
+    write-moved taken places = by-test (sound s l) (λ h. rw (a .fit, h, a .buckets h) (checked-moved _ _ _ refl)) (λ h. rw (a .fit, h) (first-refuses Refusal.Unsound _ _ _ _))
+
+    found-moved : (o : Option Bucket) → found (movedHeld d o) ≡ movedFound d (found o)
+    unfolding found movedHeld movedFound
+    found-moved none = refl
+    found-moved (some b) = λ i. Found.Level (level-moved d b i) (error-moved d b i) (b .least +ℤ d) (b .largest +ℤ d)
+
+    lookup-moved : (tick : ℕ) → lookupOutcome s m tick ≡ movedFound d (lookupOutcome s l tick)
+    unfolding lookupOutcome foundOf checked movedFound
+    lookup-moved tick =
+        by-test (sound s l)
+        (λ h.
+        rw (a .fit, h, a .buckets h, holding-moved d tick (tableOf s l))
+        (by-test (leb ticks tick) (λ k. rw k refl) (λ k. rw k (found-moved (holding tick (tableOf s l))))))
+        (λ h. rw (a .fit, h) refl)
+
+    worst-same : worstOutcome s m ≡ worstOutcome s l
+    unfolding worstOutcome checked
+    worst-same = by-test (sound s l) (λ h. rw (a .fit, h, a .buckets h, worst-moved d (tableOf s l)) refl) (λ h. rw (a .fit, h) refl)
+
+    -- what is saved of a sound trace is a file, and the second's is moved
+    file-moved : sound s l ≡ true → FileMoved d (saved (tableOf s l)) (saved (movedAll d (tableOf s l)))
+    file-moved h =
+        let t = tableOf s l in
+        let fitted = fitted-slots l 0 (s .used) (sound-facts s l h .ranges) in
+        let fitted-too = subst Fitted (a .buckets h) (fitted-slots m 0 (s .used) (sound-facts s m (a .fit ∙ h) .ranges)) in
+        record {
+          bytes = saved-bytes t;
+          bytes-too = saved-bytes (movedAll d t);
+          long = omega (arith, length-saved t, length-saved (movedAll d t), length-moved d t);
+          records = records-saved (movedAll d t) fitted-too ∙ ap (movedAll d) (sym (records-saved t fitted));
+        }
+
+  -- ---- what open and load ask
+
+  admitted-moved : (g : Settings) (l m : List ℤ) → length m ≡ length l → (v w : Verdict Table) → w ≡ movedVerdict v → admitted g m w ≡ movedVerdict (admitted g l v)
+  unfolding admitted roomy
+  admitted-moved g l m long v w e = rw long (checked-moved _ v w e)
+
+  file-verdict-moved : (g : Settings) (f too : List ℕ) → FileMoved d f too → fileVerdict g too ≡ movedVerdict (fileVerdict g f)
+  unfolding fileVerdict ruled movedVerdict
+  file-verdict-moved g f too a =
+      rw (a .long, a .records, first-fault-moved d (g .kind) 0 0 (recordsOf f), runs-moved d (recordsOf f), length-moved d (recordsOf f))
+      (checked-moved _ (accepted (recordsOf f)) _ refl)
+
+  -- ---- what the two have
+
+  state-moved : (g : Settings) (t : Table) → stateOf g (movedAll d t) ≡ stateOf g t
+  state-moved g t = λ i. record { settings = g; used = length-moved d t i; runs = runs-moved d t i; readings = readings-moved d t i }
+
+  tables-moved : (g : Settings) (t : Table) (l m : List ℤ) → tableOf (stateOf g t) (laid (needed g) (movedAll d t) m) ≡ movedAll d (tableOf (stateOf g t) (laid (needed g) t l))
+  tables-moved g t l m =
+      ap (λ (n : ℕ). slots (laid (needed g) (movedAll d t) m) 0 n) (sym (length-moved d t)) ∙ slots-laid (needed g) (movedAll d t) m ∙ ap (movedAll d) (sym (slots-laid (needed g) t l))
+
+  -- a table and the same moved, laid in two rooms
+  laid-twin : (g : Settings) (t : Table) (l m : List ℤ) → sound (stateOf g t) (laid (needed g) t l) ≡ true → sound (stateOf g (movedAll d t)) (laid (needed g) (movedAll d t) m) ≡ true
+      → Twin (stateOf g t) (laid (needed g) t l) (laid (needed g) (movedAll d t) m)
+  laid-twin g t l m p q =
+      record {
+        fit = subst (λ (x : State). sound x (laid (needed g) (movedAll d t) m) ≡ true) (state-moved g t) q ∙ sym p;
+        buckets = λ _. tables-moved g t l m;
+      }
+
+  -- the second caller, who has the first one's state and tally
+  abbrev second : Caller → List ℤ → List (List ℕ) → Caller
+  second c m gs = record { state = c .state; room = m; tally = c .tally; files = gs }
+
+  record Along (c : Caller) (m : List ℤ) (gs : List (List ℕ)) : Type 0 where
+    twin : Twin (c .state) (c .room) m
+    files : FilesMoved d (c .files) gs
+
+  record Goes (c e : Caller) : Type 0 where
+    state : e .state ≡ c .state
+    tally : e .tally ≡ c .tally
+    along : Along c (e .room) (e .files)
+
+  module _ (c : Caller) (m : List ℤ) (gs : List (List ℕ)) (a : Along c m gs) where
+    -- a call that changes nothing
+    stays : Goes c (second c m gs)
+    stays = record { state = refl; tally = refl; along = a }
+
+    -- the answers of two trace calls, and what each leaves its caller
+    abbrev Both : (Caller → Verdict State × List ℤ → Caller) → Settings → List ℤ → List ℤ → Verdict Table → Verdict Table → Type 0
+    Both by g l n v w =
+        (caller.traced (traced g n w .0) ≡ caller.traced (traced g l v .0)) × Goes (by c (traced g l v)) (by (second c m gs) (traced g n w))
+
+    fed-goes : (v : Verdict Table) → let g = c .state .settings in LeavesSound (traced g (c .room) v) → LeavesSound (traced g m (movedVerdict v)) → Both fed g (c .room) m v (movedVerdict v)
+    unfolding traced movedVerdict onward LeftBy counted
+    fed-goes (refused r) p q = (refl, record { state = refl; tally = refl; along = record { twin = a .twin; files = a .files } })
+    fed-goes (accepted t) p q =
+        let g = c .state .settings in
+        let same = state-moved g t in
+        (ap (λ (x : State). caller.traced (accepted x)) same, record { state = same; tally = ap (λ (x : State). counted (c .tally) (c .state .used) (accepted x)) same; along = record { twin = laid-twin g t (c .room) m p q; files = a .files } })
+
+    -- of an open or a load, in rooms l and n
+    begins : Caller → Verdict State × List ℤ → Caller
+    begins e o = begun e (o .0) (o .1)
+
+    begun-goes : (g : Settings) (l n : List ℤ) (v : Verdict Table) → LeavesSound (traced g l v) → LeavesSound (traced g n (movedVerdict v)) → Both begins g l n v (movedVerdict v)
+    unfolding traced movedVerdict begun LeftBy begins
+    begun-goes g l n (refused r) p q = (refl, stays)
+    begun-goes g l n (accepted t) p q =
+        let same = state-moved g t in (ap (λ (x : State). caller.traced (accepted x)) same, record { state = same; tally = refl; along = record { twin = laid-twin g t l n p q; files = a .files } })
+
+    along : (by : Caller → Verdict State × List ℤ → Caller) (g : Settings) (l n : List ℤ) (v w : Verdict Table) → w ≡ movedVerdict v
+        → (LeavesSound (traced g n (movedVerdict v)) → Both by g l n v (movedVerdict v)) → LeavesSound (traced g n w) → Both by g l n v w
+    along by g l n v w e = subst (λ (x : Verdict Table). LeavesSound (traced g n x) → Both by g l n v x) (sym e)
+
+    -- what row and save write: the buckets, and their bytes
+    drawn-moved : (out too : List Bucket) (v : Verdict Table)
+        → let o = wrote (λ t. t) out v in let q = wrote (λ t. t) too (movedVerdict v) in caller.drawn (q .0) (part 1 (q .0) (q .1)) ≡ caller.drawn (o .0) (movedAll d (part 1 (o .0) (o .1)))
+    unfolding wrote movedVerdict part
+    drawn-moved out too (refused r) = refl
+    drawn-moved out too (accepted t) =
+        rw (take-at t (drop (length t) out) (1 * length t) (omega arith), take-at (movedAll d t) (drop (length (movedAll d t)) too) (1 * length (movedAll d t)) (omega arith), length-moved d t) refl
+
+    abbrev Filed : List ℕ → List ℕ → Verdict Table → Type 0
+    Filed out too v =
+        let o = wrote saved out v in
+        let q = wrote saved too (movedVerdict v) in
+        (caller.filed (q .0) ≡ caller.filed (o .0)) × Goes (kept c (o .0) (o .1)) (kept (second c m gs) (q .0) (q .1))
+
+    not-filed : (out too : List ℕ) (r : Refusal) → Filed out too (refused r)
+    unfolding wrote movedVerdict kept
+    not-filed out too r = (refl, stays)
+
+    file-written : (out too : List ℕ) → sound (c .state) (c .room) ≡ true → let t = tableOf (c .state) (c .room) in let u = movedAll d t in
+        FileMoved d (part 16 (Written.Buckets (length t)) (saved t ++ drop (length (saved t)) out)) (part 16 (Written.Buckets (length u)) (saved u ++ drop (length (saved u)) too))
+    file-written out too h =
+        let t = tableOf (c .state) (c .room) in rw (written-are t out, written-are (movedAll d t) too) (file-moved (c .state) (c .room) m (a .twin) h)
+
+    filed-too : (out too : List ℕ) → sound (c .state) (c .room) ≡ true → Filed out too (accepted (tableOf (c .state) (c .room)))
+    unfolding wrote movedVerdict kept
+    filed-too out too h =
+        (ap (λ (n : ℕ). caller.filed (Written.Buckets n)) (length-moved d (tableOf (c .state) (c .room))), record { state = refl; tally = refl; along = record { twin = a .twin; files = one-more (c .files) gs (file-written out too h) (a .files) } })
+
+    step : {x y : Call} → Higher d x y → (answer (second c m gs) y ≡ movedAnswer d (answer c x)) × Goes (left c x) (left (second c m gs) y)
+    unfolding answer left movedAnswer movedVerdict begins
+    step (opens-too g l n long) =
+        let k = keptAs g in
+        along begins k l n _ _ (admitted-moved k l n long (accepted []) (accepted []) refl) (begun-goes k l n _ (open-leaves g l)) (open-leaves g n)
+    step (nexts-too v fits fits-too) =
+        let s = c .state in
+        along fed (s .settings) (c .room) m _ _ (next-moved s (c .room) m (a .twin) v) (fed-goes _ (next-leaves s (c .room) v (signed-fits v fits))) (next-leaves s m (v +ℤ d) (signed-fits (v +ℤ d) fits-too))
+    step (lates-too tick v fits fits-too) =
+        let s = c .state in
+        along fed (s .settings) (c .room) m _ _ (late-moved s (c .room) m (a .twin) tick v) (fed-goes _ (late-leaves s (c .room) tick v (signed-fits v fits))) (late-leaves s m tick (v +ℤ d) (signed-fits (v +ℤ d) fits-too))
+    step (lookups-too tick) = (ap caller.shown (lookup-moved (c .state) (c .room) m (a .twin) tick), stays)
+    step worsts-too = (ap caller.measured (worst-same (c .state) (c .room) m (a .twin)), stays)
+    step (rows-too out too long) =
+        let n = c .state .used in
+        (rw (long, write-moved (c .state) (c .room) m (a .twin) n (length out)) (drawn-moved out too (writeVerdict (c .state) (c .room) n (length out))), stays)
+    step (saves-too out too long) =
+        let n = recordWidth * c .state .used in
+        rw (long, write-moved (c .state) (c .room) m (a .twin) n (length out))
+        (write-either (c .state) (c .room) n (length out) (Filed out too) (not-filed out too) (λ h _. filed-too out too h))
+    step (loads-too g i l n long) =
+        let k = keptAs g in
+        let f = fileAt c i in
+        let too = getD gs i [] in
+        let moves = a .files i in
+        along begins k l n _ _ (admitted-moved k l n long (fileVerdict k f) (fileVerdict k too) (file-verdict-moved k f too moves)) (begun-goes k l n _ (load-leaves g f l (moves .bytes))) (load-leaves g too n (moves .bytes-too))
+
+  -- ---- any calls
+
+  all : (c : Caller) (m : List ℤ) (gs : List (List ℕ)) → Along c m gs → {xs ys : List Call} → AllHigher d xs ys
+      → (answers (second c m gs) ys ≡ map (movedAnswer d) (answers c xs)) × Alike d (after c xs) (after (second c m gs) ys)
+  unfolding answers after
+  all c m gs a no-more = (refl, record { state = refl; fit = a .twin .fit; buckets = a .twin .buckets; tally = refl; files = a .files })
+  all c m gs a (each {x} {y} {xs} {ys} h hs) =
+      let w = step c m gs a h in
+      let e = left (second c m gs) y in
+      let same : e ≡ second (left c x) (e .room) (e .files) = λ i. record { state = w .1 .state i; room = e .room; tally = w .1 .tally i; files = e .files } in
+      let r = all (left c x) (e .room) (e .files) (w .1 .along) hs in (
+        ap (λ (z : Answer). z ∷ answers e ys) (w .0) ∙ ap (λ (z : List Answer). movedAnswer d (answer c x) ∷ z) (ap (λ (z : Caller). answers z ys) same ∙ r .0),
+        subst (λ (z : Caller). Alike d (after (left c x) xs) (after z ys)) (sym same) (r .1),
+      )
+
+  -- before the first open nothing is sound
+  idle-along : (s : State) (t : Tally) (fs gs : List (List ℕ)) → FilesMoved d fs gs → Along (idle s t fs) [] gs
+  idle-along s t fs gs f = record { twin = record { fit = refl; buckets = λ h. absurd (omega (arith, sound-facts s [] h .long)) }; files = f }
+
+module _ (d : ℤ) (c e : Caller) (a : Alike d c e) where
+  same-second : e ≡ second d c (e .room) (e .files)
+  same-second = λ i. record { state = a .state i; room = e .room; tally = a .tally i; files = e .files }
+
+  alike-along : Along d c (e .room) (e .files)
+  alike-along =
+      record {
+        twin = record {
+          fit = subst (λ (s : State). sound s (e .room) ≡ sound (c .state) (c .room)) (a .state) (a .fit);
+          buckets = λ h. subst (λ (s : State). tableOf s (e .room) ≡ movedAll d (tableOf (c .state) (c .room))) (a .state) (a .buckets h);
+        };
+        files = a .files;
+      }
+
+  from-alike : (xs ys : List Call) → AllHigher d xs ys → (answers e ys ≡ map (movedAnswer d) (answers c xs)) × Alike d (after c xs) (after e ys)
+  from-alike xs ys h =
+      subst (λ (z : Caller). (answers z ys ≡ map (movedAnswer d) (answers c xs)) × Alike d (after c xs) (after z ys)) (sym same-second) (all d c (e .room) (e .files) alike-along h)
+
+-- ---- nothing is left out
+
+call-higher : (d : ℤ) (x : Call) → Fits d x → Higher d x (higher d x)
+unfolding Fits higher
+call-higher d (caller.opens g l) f = opens-too g l l refl
+call-higher d (caller.nexts v) f = nexts-too v (f .0) (f .1)
+call-higher d (caller.lates tick v) f = lates-too tick v (f .0) (f .1)
+call-higher d (caller.lookups tick) f = lookups-too tick
+call-higher d caller.worsts f = worsts-too
+call-higher d (caller.rows out) f = rows-too out out refl
+call-higher d (caller.saves out) f = saves-too out out refl
+call-higher d (caller.loads g i l) f = loads-too g i l l refl
+
+all-higher : (d : ℤ) (xs : List Call) → AllFit d xs → AllHigher d xs (map (higher d) xs)
+unfolding AllFit
+all-higher d [] f = no-more
+all-higher d (x ∷ xs) f = each (call-higher d x (f .0)) (all-higher d xs (f .1))
+
+-- ---- the promise
+
+twice-level : (b : Bucket) → (leZ (level b +ℤ level b) (b .least +ℤ b .largest) ≡ true) × (leZ (b .least +ℤ b .largest) ((level b +ℤ level b) +ℤ pos 1) ≡ true)
+twice-level b =
+    let a = b .least in
+    let z = b .largest in
+    let m = level b in
+    (omega (whole, middle-up a z, middle-down a z, sum m m, one-side (a +ℤ z), one-side m), omega (whole, middle-up a z, middle-down a z, sum m m, sum (m +ℤ m) (pos 1), one-side (a +ℤ z), one-side m))
+
+pub offset : Offset
+unfolding after
+offset =
+    record {
+      rounded = twice-level;
+      halved = error-is-half;
+      levels = level-moved;
+      errors = error-moved;
+      worsts = worst-moved;
+      before = λ d s t fs gs f. all d (idle s t fs) [] gs (idle-along d s t fs gs f) no-more .1;
+      answers = λ d c e a xs ys h. from-alike d c e a xs ys h .0;
+      leaves = λ d c e a xs ys h. from-alike d c e a xs ys h .1;
+      any = all-higher;
+    }

@@ -1,0 +1,99 @@
+-- A caller who makes any calls in turn, each getting what the last one left: what each answers, and what the caller has then.
+use Prim.Native.Nat.{ℕ, _*_}
+use mathlib.Core.List.{List, [], _∷_}
+use lib.IntN.{ℤ}
+use lib.ListN.{getD, take}
+use Rattle.rule.specs.declared.Bucket.{Bucket}
+use Rattle.rule.specs.declared.Found.{Found}
+use Rattle.rule.specs.declared.Settings.{Settings}
+use Rattle.rule.specs.declared.State.{State}
+use Rattle.rule.specs.declared.Tally.{Tally}
+use Rattle.rule.specs.declared.Written.{Written}
+use Rattle.rule.specs.Calls.{Verdict, refused, accepted, counted, lateOutcome, loaded, lookupOutcome, nextOutcome, opened, rowOutcome, saveOutcome}
+use Rattle.session.specs.Session.{onward}
+use Rattle.worst.specs.declared.Measured.{Measured}
+use Rattle.worst.specs.Outcome.{worstOutcome}
+
+-- what a caller has between calls; a file that is saved is put before the others
+pub record Caller : Type 0 where
+  pub state : State
+  pub room : List ℤ
+  pub tally : Tally
+  pub files : List (List ℕ)
+
+-- before the first open: a state of any numbers, and no room yet
+abbrev pub idle : State → Tally → List (List ℕ) → Caller
+idle s t files = record { state = s; room = []; tally = t; files = files }
+
+-- a call, with what is named and lent at it: open and load get a room, row and save an output, and load the place of a file
+pub data Call : Type 0 where
+  opens : Settings → List ℤ → Call
+  nexts : ℤ → Call
+  lates : ℕ → ℤ → Call
+  lookups : ℕ → Call
+  worsts : Call
+  rows : List Bucket → Call
+  saves : List ℕ → Call
+  loads : Settings → ℕ → List ℤ → Call
+
+-- of open, next, late and load; of lookup; of the worst error; of row, with the buckets that it wrote; of save
+pub data Answer : Type 0 where
+  traced : Verdict State → Answer
+  shown : Found → Answer
+  measured : Measured → Answer
+  drawn : Written → List Bucket → Answer
+  filed : Written → Answer
+
+-- what was written, a bucket taking so many places of the output
+unfoldable pub part : {A : Type 0} → ℕ → Written → List A → List A
+part width (Written.Refused r) out = []
+part width (Written.Buckets n) out = take (width * n) out
+
+-- the file that load is given; a place where there is none stands for the empty file
+abbrev pub fileAt : Caller → ℕ → List ℕ
+fileAt c i = getD (c .files) i []
+
+unfoldable pub answer : Caller → Call → Answer
+answer c (opens g l) = traced (opened g l .0)
+answer c (nexts v) = traced (nextOutcome (c .state) (c .room) v .0)
+answer c (lates tick v) = traced (lateOutcome (c .state) (c .room) tick v .0)
+answer c (lookups tick) = shown (lookupOutcome (c .state) (c .room) tick)
+answer c worsts = measured (worstOutcome (c .state) (c .room))
+answer c (rows out) = let o = rowOutcome (c .state) (c .room) out in drawn (o .0) (part 1 (o .0) (o .1))
+answer c (saves out) = filed (saveOutcome (c .state) (c .room) out .0)
+answer c (loads g i l) = traced (loaded g (fileAt c i) l .0)
+
+-- after a reading, which the tally counts
+abbrev pub fed : Caller → Verdict State × List ℤ → Caller
+fed c o =
+    record { state = onward (c .state) (o .0); room = o .1; tally = counted (c .tally) (c .state .used) (o .0); files = c .files }
+
+-- after an open or a load: the new trace in its room, or after a refusal the trace at hand
+unfoldable pub begun : Caller → Verdict State → List ℤ → Caller
+begun c (refused r) l = c
+begun c (accepted s) l = record { state = s; room = l; tally = c .tally; files = c .files }
+
+-- after a save: what was written is a file
+unfoldable pub kept : Caller → Written → List ℕ → Caller
+kept c (Written.Refused r) out = c
+kept c (Written.Buckets n) out = record { state = c .state; room = c .room; tally = c .tally; files = part 16 (Written.Buckets n) out ∷ c .files }
+
+unfoldable pub left : Caller → Call → Caller
+left c (opens g l) = let o = opened g l in begun c (o .0) (o .1)
+left c (nexts v) = fed c (nextOutcome (c .state) (c .room) v)
+left c (lates tick v) = fed c (lateOutcome (c .state) (c .room) tick v)
+left c (lookups tick) = c
+left c worsts = c
+left c (rows out) = c
+left c (saves out) = let o = saveOutcome (c .state) (c .room) out in kept c (o .0) (o .1)
+left c (loads g i l) = let o = loaded g (fileAt c i) l in begun c (o .0) (o .1)
+
+-- the answers to calls in turn, the first of the list first
+unfoldable pub answers : Caller → List Call → List Answer
+answers c [] = []
+answers c (x ∷ xs) = answer c x ∷ answers (left c x) xs
+
+-- and what the caller has after them
+unfoldable pub after : Caller → List Call → Caller
+after c [] = c
+after c (x ∷ xs) = after (left c x) xs

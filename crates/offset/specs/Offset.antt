@@ -1,0 +1,123 @@
+-- A probe offset: one number added to all readings moves every level by that number, where nothing leaves the 32-bit range.
+use Prim.Native.Nat.{ℕ, _+_, _/_}
+use mathlib.Core.Path.{_≡_}
+use mathlib.Core.Bool.{true}
+use mathlib.Core.List.{List, [], _∷_, map}
+use lib.IntN.{ℤ, pos, _+ℤ_}
+use lib.ListN.{getD, length}
+use lib.Signed.{leZ}
+use Rattle.rule.specs.declared.Bucket.{Bucket}
+use Rattle.rule.specs.declared.Found.{Found}
+use Rattle.rule.specs.declared.Settings.{Settings}
+use Rattle.rule.specs.declared.State.{State}
+use Rattle.rule.specs.declared.Tally.{Tally}
+use Rattle.rule.specs.Bucket.{error, level, spread}
+use Rattle.rule.specs.Bytes.{recordsOf}
+use Rattle.rule.specs.Room.{signed, sound, tableOf}
+use Rattle.rule.specs.Table.{Table, worst}
+use Rattle.saved.specs.Bytes.{AllBytes}
+use Rattle.offset.specs.Caller.{Answer, Call, Caller, after, answers, drawn, filed, idle, lates, loads, lookups, measured, nexts, opens, rows, saves, shown, traced, worsts}
+
+-- ---- d higher, d being any whole number
+
+-- a bucket of the same ticks, each reading d more
+abbrev pub moved : ℤ → Bucket → Bucket
+moved d b = record { start = b .start; count = b .count; least = b .least +ℤ d; largest = b .largest +ℤ d }
+
+abbrev pub movedAll : ℤ → Table → Table
+movedAll d t = map (moved d) t
+
+-- what lookup shows: the level, the least and the largest d higher, the error the same; a refusal the same
+unfoldable pub movedFound : ℤ → Found → Found
+movedFound d (Found.Level level error least largest) = Found.Level (level +ℤ d) error (least +ℤ d) (largest +ℤ d)
+movedFound d (Found.Refused r) = Found.Refused r
+
+-- states, refusals with number and place, errors and counts are the same
+unfoldable pub movedAnswer : ℤ → Answer → Answer
+movedAnswer d (traced v) = traced v
+movedAnswer d (shown f) = shown (movedFound d f)
+movedAnswer d (measured e) = measured e
+movedAnswer d (drawn w t) = drawn w (movedAll d t)
+movedAnswer d (filed w) = filed w
+
+-- ---- two callers
+
+-- files of bytes, one as long as the other, the records of the second d higher
+pub record FileMoved (d : ℤ) (f g : List ℕ) : Type 0 where
+  pub bytes : AllBytes f
+  pub bytes-too : AllBytes g
+  pub long : length g ≡ length f
+  pub records : recordsOf g ≡ movedAll d (recordsOf f)
+
+-- so are those at each place
+abbrev pub FilesMoved : ℤ → List (List ℕ) → List (List ℕ) → Type 0
+FilesMoved d fs gs = (i : ℕ) → FileMoved d (getD fs i []) (getD gs i [])
+
+-- the same call by a second caller, whose reading is d more and fits 32 bits as the first one's does; each lends a room or an output of its own, as long as the other's
+pub data Higher (d : ℤ) : Call → Call → Type 0 where
+  opens-too : (g : Settings) (l m : List ℤ) → length m ≡ length l → Higher d (opens g l) (opens g m)
+  nexts-too : (v : ℤ) → signed v ≡ true → signed (v +ℤ d) ≡ true → Higher d (nexts v) (nexts (v +ℤ d))
+  lates-too : (tick : ℕ) (v : ℤ) → signed v ≡ true → signed (v +ℤ d) ≡ true → Higher d (lates tick v) (lates tick (v +ℤ d))
+  lookups-too : (tick : ℕ) → Higher d (lookups tick) (lookups tick)
+  worsts-too : Higher d worsts worsts
+  rows-too : (out too : List Bucket) → length too ≡ length out → Higher d (rows out) (rows too)
+  saves-too : (out too : List ℕ) → length too ≡ length out → Higher d (saves out) (saves too)
+  loads-too : (g : Settings) (i : ℕ) (l m : List ℤ) → length m ≡ length l → Higher d (loads g i l) (loads g i m)
+
+-- so are calls in turn
+pub data AllHigher (d : ℤ) : List Call → List Call → Type 0 where
+  none : AllHigher d [] []
+  each : {x y : Call} {xs ys : List Call} → Higher d x y → AllHigher d xs ys → AllHigher d (x ∷ xs) (y ∷ ys)
+
+-- such is every call whose reading fits 32 bits, and fits them with d: the same call, its reading d more
+unfoldable pub higher : ℤ → Call → Call
+higher d (opens g l) = opens g l
+higher d (nexts v) = nexts (v +ℤ d)
+higher d (lates tick v) = lates tick (v +ℤ d)
+higher d (lookups tick) = lookups tick
+higher d worsts = worsts
+higher d (rows out) = rows out
+higher d (saves out) = saves out
+higher d (loads g i l) = loads g i l
+
+unfoldable pub Fits : ℤ → Call → Type 0
+Fits d (opens g l) = Unit {0}
+Fits d (nexts v) = (signed v ≡ true) × (signed (v +ℤ d) ≡ true)
+Fits d (lates tick v) = (signed v ≡ true) × (signed (v +ℤ d) ≡ true)
+Fits d (lookups tick) = Unit {0}
+Fits d worsts = Unit {0}
+Fits d (rows out) = Unit {0}
+Fits d (saves out) = Unit {0}
+Fits d (loads g i l) = Unit {0}
+
+unfoldable pub AllFit : ℤ → List Call → Type 0
+AllFit d [] = Unit {0}
+AllFit d (x ∷ xs) = Fits d x × AllFit d xs
+
+-- what the second caller has is what the first has, d higher: the same state, and every bucket with the same ticks, moved
+pub record Alike (d : ℤ) (c e : Caller) : Type 0 where
+  pub state : e .state ≡ c .state
+  pub fit : sound (e .state) (e .room) ≡ sound (c .state) (c .room)
+  pub buckets : sound (c .state) (c .room) ≡ true → tableOf (e .state) (e .room) ≡ movedAll d (tableOf (c .state) (c .room))
+  pub tally : e .tally ≡ c .tally
+  pub files : FilesMoved d (c .files) (e .files)
+
+-- ---- the promise
+
+pub record Offset : Type 0 where
+  -- the level is half the sum of least and largest, rounded down: twice it is the sum or one less
+  pub rounded : (b : Bucket) → (leZ (level b +ℤ level b) (b .least +ℤ b .largest) ≡ true) × (leZ (b .least +ℤ b .largest) ((level b +ℤ level b) +ℤ pos 1) ≡ true)
+  -- the error is half the spread, rounded up
+  pub halved : (b : Bucket) → leZ (b .least) (b .largest) ≡ true → error b ≡ (spread b + 1) / 2
+  -- a level moves with its bucket, and errors stay
+  pub levels : (d : ℤ) (b : Bucket) → level (moved d b) ≡ level b +ℤ d
+  pub errors : (d : ℤ) (b : Bucket) → error (moved d b) ≡ error b
+  pub worsts : (d : ℤ) (t : Table) → worst (movedAll d t) ≡ worst t
+  -- two callers are alike before the first open, with any state and tally, and any files of which the second's are d higher
+  pub before : (d : ℤ) (s : State) (t : Tally) (fs gs : List (List ℕ)) → FilesMoved d fs gs → Alike d (idle s t fs) (idle s t gs)
+  -- of two that are alike, each answer that the second gets is the first one's, moved, whatever they call
+  pub answers : (d : ℤ) (c e : Caller) → Alike d c e → (xs ys : List Call) → AllHigher d xs ys → answers e ys ≡ map (movedAnswer d) (answers c xs)
+  -- they stay alike
+  pub leaves : (d : ℤ) (c e : Caller) → Alike d c e → (xs ys : List Call) → AllHigher d xs ys → Alike d (after c xs) (after e ys)
+  -- and no calls are left out
+  pub any : (d : ℤ) (xs : List Call) → AllFit d xs → AllHigher d xs (map (higher d) xs)

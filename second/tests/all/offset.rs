@@ -1,0 +1,91 @@
+//! One number added to all readings: the same answers, every level, least and largest moved by that number, the errors as they were.
+
+use crate::support::Trace;
+use second::calls::{self, Held};
+use second::random::Random;
+use second::rule::{worst_error, Bucket, Kind};
+
+const LOWEST: i64 = i32::MIN as i64;
+const HIGHEST: i64 = i32::MAX as i64;
+
+/// A reading that fits 32 bits with the offset and without it; mostly near others, so that sums are odd and even, below zero and above.
+fn fitting_value(random: &mut Random, offset: i64) -> i32 {
+    let [low, high] = [LOWEST.max(LOWEST - offset), HIGHEST.min(HIGHEST - offset)];
+    let near = (-offset / 2).clamp(low, high);
+    let value = match random.below(4) {
+        0 => random.between(low, high),
+        1 => random.choice(&[low, high]),
+        _ => random.between((near - 9).max(low), (near + 9).min(high)),
+    };
+    value as i32
+}
+
+fn moved(bucket: &Bucket, offset: i64) -> Bucket {
+    Bucket {
+        least: bucket.least + offset,
+        largest: bucket.largest + offset,
+        ..*bucket
+    }
+}
+
+fn feed(trace: &mut Trace, tick: u32, value: i32) -> Result<(), calls::Refusal> {
+    match trace.state.kind {
+        Kind::InOrder => trace.next(value),
+        Kind::Late => trace.late(tick, value),
+    }
+}
+
+#[test]
+fn an_offset_moves_every_level() {
+    let mut random = Random::new(41);
+    // Odd sums that are below zero in one trace and above in the other: cut toward zero, their levels would be one too near.
+    let mut moved_across = 0;
+    for number in 0..4_000 {
+        let offset = match number % 4 {
+            0 => 1_001,
+            1 => random.choice(&[-4_294_967_295, -1, 1, 4_294_967_295]),
+            2 => random.between(-4_294_967_295, 4_294_967_295),
+            _ => random.between(-20, 20),
+        };
+        let kind = random.choice(&[Kind::InOrder, Kind::Late]);
+        let [steps, gaps] = [(); 2].map(|()| random.between(1, 4) as u64);
+        let gaps = if kind == Kind::Late { gaps } else { 0 };
+        let mut trace = Trace::open(kind, steps, gaps);
+        let mut other = Trace::open(kind, steps, gaps);
+        for _ in 0..random.below(40) {
+            let tick = random.below(40) as u32;
+            let value = fitting_value(&mut random, offset);
+            let raised = (i64::from(value) + offset) as i32;
+            assert_eq!(
+                feed(&mut trace, tick, value),
+                feed(&mut other, tick, raised)
+            );
+            assert_eq!((trace.state, trace.tally), (other.state, other.tally));
+            let asked = random.below(42) as u32;
+            let held = calls::lookup(trace.state, &trace.room, asked);
+            let expected = held.map(|held| Held {
+                level: held.level + offset,
+                least: held.least + offset,
+                largest: held.largest + offset,
+                ..held
+            });
+            assert_eq!(calls::lookup(other.state, &other.room, asked), expected);
+            if random.below(8) == 0 {
+                other = other.reloaded();
+            }
+        }
+        let buckets = trace.buckets();
+        let expected: Vec<Bucket> = buckets.iter().map(|bucket| moved(bucket, offset)).collect();
+        assert_eq!(other.buckets(), expected);
+        assert_eq!(worst_error(&expected), worst_error(&buckets));
+        let across = |bucket: &&Bucket| {
+            let sum = bucket.least + bucket.largest;
+            sum % 2 != 0 && (sum < 0) != (sum + 2 * offset < 0)
+        };
+        moved_across += buckets.iter().filter(across).count();
+    }
+    assert!(
+        moved_across > 500,
+        "{moved_across} odd sums move across zero"
+    );
+}

@@ -360,7 +360,7 @@ unfolding after
 offset =
     record {
       rounded = twice-level;
-      halved = error-is-half;
+      half = error-is-half;
       levels = level-moved;
       errors = error-moved;
       worsts = worst-moved;

@@ -108,7 +108,7 @@ pub record Offset : Type 0 where
   -- the level is half the sum of least and largest, rounded down: twice it is the sum or one less
   pub rounded : (b : Bucket) → (leZ (level b +ℤ level b) (b .least +ℤ b .largest) ≡ true) × (leZ (b .least +ℤ b .largest) ((level b +ℤ level b) +ℤ pos 1) ≡ true)
   -- the error is half the spread, rounded up
-  pub halved : (b : Bucket) → leZ (b .least) (b .largest) ≡ true → error b ≡ (spread b + 1) / 2
+  pub half : (b : Bucket) → leZ (b .least) (b .largest) ≡ true → error b ≡ (spread b + 1) / 2
   -- a level moves with its bucket, and errors stay
   pub levels : (d : ℤ) (b : Bucket) → level (moved d b) ≡ level b +ℤ d
   pub errors : (d : ℤ) (b : Bucket) → error (moved d b) ≡ error b

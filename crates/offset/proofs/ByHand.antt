@@ -1,5 +1,14 @@
 -- The calls worked by hand are what the definitions say.
-use mathlib.Core.Path.{refl}
+use Prim.Native.Nat.{ℕ, zero, suc}
+use mathlib.Core.Path.{_≡_, refl}
+use mathlib.Core.Bool.{true}
+use mathlib.Core.List.{List, [], _∷_, map}
+use borrow.Author.Tests.{ltb-true}
+use lib.Dec.{ltb}
+use lib.IntN.{pos, negsuc}
+use lib.ListN.{getD}
+use Rattle.rule.proofs.Ruling.{and-left, and-right}
+use Rattle.saved.specs.Bytes.{AllBytes}
 use native.Mathlib.Omega.{arith}
 use Rattle.rule.specs.Bucket.{distance, larger, lesser, middle}
 use Rattle.rule.specs.Table.{accept, cheaper, cheapest, choice, holding, holds, insert, lastEnd, limitOver, merge, mergeAt, mergeOf, readings, runs, runsAfter, settle, settleIn, worst}
@@ -10,24 +19,43 @@ use Rattle.rule.specs.Calls.{admitted, checked, counted, fileVerdict, found, fo
 use Rattle.worst.specs.Outcome.{measured, worstOutcome}
 use Rattle.session.specs.Session.{onward}
 use Rattle.offset.specs.Caller.{after, answer, answers, begun, kept, left, part}
-use Rattle.offset.specs.Offset.{AllFit, Fits, higher}
-use Rattle.offset.specs.ByHand.{ByHand}
+use Rattle.offset.specs.Offset.{FileMoved, FilesMoved, each, lates-too, loads-too, lookups-too, nexts-too, none, opens-too, rows-too, saves-too, worsts-too}
+use Rattle.offset.specs.ByHand.{ByHand, files, filesMoved}
+
+-- a list whose numbers are tested one by one
+bytes-all : (l : List ℕ) → allOf (map (λ n. ltb n 256) l) ≡ true → AllBytes l
+unfolding allOf
+bytes-all [] e i = omega arith
+bytes-all (n ∷ l) e zero = ltb-true n 256 (and-left (ltb n 256) (allOf (map (λ n. ltb n 256) l)) e)
+bytes-all (n ∷ l) e (suc i) = bytes-all l (and-right (ltb n 256) (allOf (map (λ n. ltb n 256) l)) e) i
+
+-- the files that a caller has, each
+moved-empty : (i : ℕ) → FileMoved (pos 1001) (getD {A = List ℕ} [] i []) (getD {A = List ℕ} [] i [])
+unfolding recordsOf records
+moved-empty i = record { bytes = λ j. omega arith; bytes-too = λ j. omega arith; long = refl; records = refl }
+
+moved-each : FilesMoved (pos 1001) files filesMoved
+unfolding recordsOf records recordAt wordAt reading allOf
+moved-each zero = record { bytes = bytes-all (getD files 0 []) refl; bytes-too = bytes-all (getD filesMoved 0 []) refl; long = refl; records = refl }
+moved-each (suc zero) = record { bytes = bytes-all (1 ∷ []) refl; bytes-too = bytes-all (1 ∷ []) refl; long = refl; records = refl }
+moved-each (suc (suc i)) = moved-empty i
 
 pub by-hand : ByHand
-unfolding distance larger lesser middle accept cheaper cheapest choice holding holds insert lastEnd limitOver merge mergeAt mergeOf readings runs runsAfter settle settleIn worst broken equal faultAt firstFalse firstFault follows isWhole placeOr ruled rules allOf allZero clauses flat gapsBounded gapsGood laid ranged restZero roomy runsAllowed slot slotRanged slots sound stepsGood within zeros bits bytes reading recordAt records recordsOf saved savedRecord wordAt admitted checked counted fileVerdict found foundOf gapsKept grown isHeld late lateVerdict lookupOutcome nextVerdict traced writeVerdict wrote measured worstOutcome onward after answer answers begun kept left part AllFit Fits higher
+unfolding distance larger lesser middle accept cheaper cheapest choice holding holds insert lastEnd limitOver merge mergeAt mergeOf readings runs runsAfter settle settleIn worst broken equal faultAt firstFalse firstFault follows isWhole placeOr ruled rules allOf allZero clauses flat gapsBounded gapsGood laid ranged restZero roomy runsAllowed slot slotRanged slots sound stepsGood within zeros bits bytes reading recordAt records recordsOf saved savedRecord wordAt admitted checked counted fileVerdict found foundOf gapsKept grown isHeld late lateVerdict lookupOutcome nextVerdict traced writeVerdict wrote measured worstOutcome onward after answer answers begun kept left part
 by-hand =
     record {
       near-ground = refl;
       with-offset = refl;
       late-near-ground = refl;
       late-with-offset = refl;
+      files-near-ground = refl;
+      files-with-offset = refl;
       tallied = refl;
       late-tallied = refl;
-      no-files = λ i. record { bytes = λ j. omega arith; bytes-too = λ j. omega arith; long = refl; records = refl };
-      calls-fit = (tt, ((refl, refl), ((refl, refl), ((refl, refl), (tt, (tt, (tt, (tt, (tt, (tt, (tt, tt)))))))))));
-      calls-higher = refl;
-      late-fit = (tt, (tt, ((refl, refl), ((refl, refl), ((refl, refl), (tt, ((refl, refl), (tt, (tt, (tt, (tt, (tt, (tt, (tt, (tt, (tt, tt))))))))))))))));
-      late-higher = refl;
-      far-up = ((refl, refl), ((refl, refl), tt));
-      far-down = ((refl, refl), ((refl, refl), tt));
+      calls-higher = each (opens-too _ _ _ refl) (each (nexts-too (negsuc 2) refl refl) (each (nexts-too (pos 0) refl refl) (each (nexts-too (pos 50) refl refl) (each (lookups-too _) (each worsts-too (each (rows-too _ _ refl) (each (saves-too _ _ refl) (each (loads-too _ _ _ _ refl) (each (lookups-too _) (each (lookups-too _) (each (nexts-too (pos 50) refl refl) (each worsts-too (each (rows-too _ _ refl) (each (opens-too _ _ _ refl) (each (loads-too _ _ _ _ refl) none)))))))))))))));
+      late-higher = each worsts-too (each (opens-too _ _ _ refl) (each (lates-too 5 (negsuc 2) refl refl) (each (lates-too 5 (pos 50) refl refl) (each (nexts-too (pos 50) refl refl) (each (saves-too _ _ refl) (each (lates-too 3 (pos 50) refl refl) (each (opens-too _ _ _ refl) (each (saves-too _ _ refl) (each (rows-too _ _ refl) (each (saves-too _ _ refl) (each (loads-too _ _ _ _ refl) (each (lookups-too _) (each (loads-too _ _ _ _ refl) (each (lookups-too _) (each (lookups-too _) (each (lates-too 6 (pos 50) refl refl) (each (lates-too 7 (negsuc 2) refl refl) (each (lates-too 8 (negsuc 2) refl refl) (each (saves-too _ _ refl) (each (loads-too _ _ _ _ refl) none))))))))))))))))))));
+      no-files = moved-empty;
+      files-moved = moved-each;
+      far-up = each (nexts-too (negsuc 2147483647) refl refl) (each (lates-too 9 (negsuc 2147483647) refl refl) none);
+      far-down = each (nexts-too (pos 2147483647) refl refl) (each (lates-too 9 (pos 2147483647) refl refl) none);
     }

@@ -2,7 +2,7 @@
 use Prim.Native.Nat.{ℕ, zero, suc, _+_, _*_}
 use mathlib.Core.Path.{_≡_, refl, sym, ap, subst, _∙_}
 use mathlib.Core.Bool.{true, not}
-use mathlib.Core.List.{List, [], _∷_, _++_, map}
+use mathlib.Core.List.{List, [], _∷_, _++_, map, List·Memᴰ, List·Memᴰ·head, List·Memᴰ·tail}
 use mathlib.Core.Option.{Option, some, none}
 use native.Mathlib.Omega.{arith}
 use lib.Dec.{leb}
@@ -21,7 +21,7 @@ use Rattle.rule.specs.Bucket.{level}
 use Rattle.rule.specs.Bytes.{bits, bytes, recordsOf, saved, savedRecord}
 use Rattle.rule.specs.Calls.{Check, Verdict, refused, accepted, admitted, checked, counted, fileVerdict, found, foundOf, isHeld, kept as keptAs, lateVerdict, loadVerdict, loaded, lookupOutcome, nextVerdict, stateOf, traced, writeVerdict, wrote}
 use Rattle.rule.specs.Numbers.{recordWidth, ticks}
-use Rattle.rule.specs.Room.{laid, roomy, slots, sound, tableOf}
+use Rattle.rule.specs.Room.{laid, roomy, signed, slots, sound, tableOf}
 use Rattle.rule.specs.Table.{Table, holding, insert, needed, nextTick, runs, single}
 use Rattle.rule.proofs.Signed.{signed-fits}
 use Rattle.rule.specs.Rules.{ruled}
@@ -41,7 +41,7 @@ use Rattle.trace.proofs.Leaving.{late-leaves, next-leaves, open-leaves}
 use Rattle.worst.specs.Outcome.{worstOutcome}
 use Rattle.offset.specs.Caller as caller
 use Rattle.offset.specs.Caller.{Answer, Call, Caller, after, answer, answers, begun, fed, fileAt, idle, kept, left, part}
-use Rattle.offset.specs.Offset.{AllFit, AllHigher, Alike, FileMoved, FilesMoved, Fits, Higher, Offset, each, higher, lates-too, loads-too, lookups-too, movedAll, movedAnswer, movedFound, nexts-too, none as no-more, opens-too, rows-too, saves-too, worsts-too}
+use Rattle.offset.specs.Offset.{AllHigher, Alike, FileMoved, FilesMoved, Higher, Offset, each, higher, lates-too, loads-too, lookups-too, movedAll, movedAnswer, movedFound, nexts-too, none as no-more, opens-too, readingsIn, rows-too, saves-too, worsts-too}
 use Rattle.offset.proofs.Moved.{accept-moved, error-moved, first-fault-moved, holding-moved, insert-moved, last-end-moved, length-moved, level-moved, movedHeld, readings-moved, runs-moved, worst-moved}
 
 -- what is saved is bytes
@@ -330,21 +330,19 @@ module _ (d : ℤ) (c e : Caller) (a : Alike d c e) where
 
 -- ---- nothing is left out
 
-call-higher : (d : ℤ) (x : Call) → Fits d x → Higher d x (higher d x)
-unfolding Fits higher
-call-higher d (caller.opens g l) f = opens-too g l l refl
-call-higher d (caller.nexts v) f = nexts-too v (f .0) (f .1)
-call-higher d (caller.lates tick v) f = lates-too tick v (f .0) (f .1)
-call-higher d (caller.lookups tick) f = lookups-too tick
-call-higher d caller.worsts f = worsts-too
-call-higher d (caller.rows out) f = rows-too out out refl
-call-higher d (caller.saves out) f = saves-too out out refl
-call-higher d (caller.loads g i l) f = loads-too g i l l refl
-
-all-higher : (d : ℤ) (xs : List Call) → AllFit d xs → AllHigher d xs (map (higher d) xs)
-unfolding AllFit
+all-higher : (d : ℤ) (xs : List Call) → ((v : ℤ) → List·Memᴰ v (readingsIn xs) → (signed v ≡ true) × (signed (v +ℤ d) ≡ true)) → AllHigher d xs (map (higher d) xs)
+unfolding readingsIn higher
 all-higher d [] f = no-more
-all-higher d (x ∷ xs) f = each (call-higher d x (f .0)) (all-higher d xs (f .1))
+all-higher d (caller.opens g l ∷ xs) f = each (opens-too g l l refl) (all-higher d xs f)
+all-higher d (caller.nexts v ∷ xs) f =
+    let p = f v (List·Memᴰ·head refl) in each (nexts-too v (p .0) (p .1)) (all-higher d xs (λ w m. f w (List·Memᴰ·tail m)))
+all-higher d (caller.lates tick v ∷ xs) f =
+    let p = f v (List·Memᴰ·head refl) in each (lates-too tick v (p .0) (p .1)) (all-higher d xs (λ w m. f w (List·Memᴰ·tail m)))
+all-higher d (caller.lookups tick ∷ xs) f = each (lookups-too tick) (all-higher d xs f)
+all-higher d (caller.worsts ∷ xs) f = each worsts-too (all-higher d xs f)
+all-higher d (caller.rows out ∷ xs) f = each (rows-too out out refl) (all-higher d xs f)
+all-higher d (caller.saves out ∷ xs) f = each (saves-too out out refl) (all-higher d xs f)
+all-higher d (caller.loads g i l ∷ xs) f = each (loads-too g i l l refl) (all-higher d xs f)
 
 -- ---- the promise
 

@@ -1,7 +1,7 @@
--- A pin near ground, worked by hand: readings of H6, and the same with a probe offset of 1,001.
+-- Callers worked by hand: a pin near ground with the readings of H6, a late trace, and files from elsewhere; each without an offset and with one of 1,001.
 use Prim.Native.Nat.{ℕ}
 use mathlib.Core.Path.{_≡_}
-use mathlib.Core.List.{List, [], _∷_, map}
+use mathlib.Core.List.{List, [], _∷_, _++_}
 use lib.IntN.{ℤ, pos, negsuc}
 use lib.ListN.{replicate}
 use Rattle.rule.specs.declared.Found.{Found}
@@ -12,27 +12,37 @@ use Rattle.rule.specs.declared.Written.{Written}
 use Rattle.rule.specs.ByHand.{bucket, gappy, inOrder}
 use Rattle.rule.specs.Calls.{accepted, refused}
 use Rattle.worst.specs.declared.Measured.{Measured}
-use Rattle.offset.specs.Offset.{AllFit, FilesMoved, higher}
+use Rattle.offset.specs.Offset.{AllHigher, FilesMoved}
 use Rattle.offset.specs.Caller.{Answer, Call, Caller, after, answers, drawn, filed, idle, lates, loads, lookups, measured, nexts, opens, rows, saves, shown, traced, worsts}
 
--- with one step, three readings: the first two become one bucket; then every other call, and a lookup in what was saved and loaded
-abbrev pub calls : ℤ → ℤ → ℤ → List Call
-calls x y z =
-    opens (inOrder 1) (replicate 12 (pos 7))
+abbrev pub now : Settings → ℕ → ℕ → ℕ → State
+now g used runs readings = record { settings = g; used = used; runs = runs; readings = readings }
+
+abbrev pub fresh : List (List ℕ) → Caller
+fresh files = idle (now (inOrder 1) 0 0 0) (record { accepted = 0; refused = 0; merges = 0 }) files
+
+-- ---- in order
+
+-- with one step: the first two of three readings become one bucket; every other call, what was saved is loaded, and again after an open; what is lent holds n
+abbrev pub calls : ℕ → ℤ → ℤ → ℤ → List Call
+calls n x y z =
+    opens (inOrder 1) (replicate 12 (pos n))
     ∷ nexts x
     ∷ nexts y
     ∷ nexts z
     ∷ lookups 1
     ∷ worsts
-    ∷ rows (replicate 3 (bucket 9 9 (pos 9) (pos 9)))
-    ∷ saves (replicate 40 9)
-    ∷ loads (inOrder 1) 0 (replicate 13 (pos 5))
+    ∷ rows (replicate 3 (bucket n n (pos n) (pos n)))
+    ∷ saves (replicate 40 n)
+    ∷ loads (inOrder 1) 0 (replicate 13 (pos n))
     ∷ lookups 0
     ∷ lookups 3
+    ∷ nexts z
+    ∷ worsts
+    ∷ rows (replicate 2 (bucket n n (pos n) (pos n)))
+    ∷ opens (inOrder 1) (replicate 12 (pos n))
+    ∷ loads (inOrder 1) 0 (replicate 13 (pos n))
     ∷ []
-
-abbrev pub now : Settings → ℕ → ℕ → ℕ → State
-now g used runs readings = record { settings = g; used = used; runs = runs; readings = readings }
 
 -- by level, least and largest of the first bucket and the reading of the second
 abbrev pub told : ℤ → ℤ → ℤ → ℤ → List Answer
@@ -48,32 +58,42 @@ told level least largest last =
     ∷ traced (accepted (now (inOrder 1) 2 1 3))
     ∷ shown (Found.Level level 2 least largest)
     ∷ shown (Found.Refused Refusal.Absent)
+    ∷ traced (accepted (now (inOrder 1) 2 1 4))
+    ∷ measured (Measured.Error 2)
+    ∷ drawn (Written.Buckets 2) (bucket 0 2 least largest ∷ bucket 2 2 last last ∷ [])
+    ∷ traced (accepted (now (inOrder 1) 0 0 0))
+    ∷ traced (accepted (now (inOrder 1) 2 1 3))
     ∷ []
 
-abbrev pub fresh : Caller
-fresh = idle (now (inOrder 1) 0 0 0) (record { accepted = 0; refused = 0; merges = 0 }) []
+-- ---- late
 
--- a late trace, and a refusal of each call among them; what was saved first is loaded with other settings
-abbrev pub lateCalls : ℤ → ℤ → List Call
-lateCalls x y =
+-- a refusal of each call among them; what was saved first is loaded with other settings, goes on to a merge, and is loaded again behind two files
+abbrev pub lateCalls : ℕ → ℤ → ℤ → List Call
+lateCalls n x y =
     worsts
-    ∷ opens (gappy 2 3) (replicate 32 (pos 7))
+    ∷ opens (gappy 2 3) (replicate 32 (pos n))
     ∷ lates 5 x
     ∷ lates 5 y
     ∷ nexts y
-    ∷ saves (replicate 16 9)
+    ∷ saves (replicate 16 n)
     ∷ lates 3 y
     ∷ opens (inOrder 1) []
     ∷ saves []
     ∷ rows []
-    ∷ saves (replicate 40 9)
+    ∷ saves (replicate 40 n)
     ∷ loads (gappy 1 2) 0 []
     ∷ lookups 5
-    ∷ loads (gappy 1 2) 1 (replicate 20 (pos 5))
+    ∷ loads (gappy 1 2) 1 (replicate 20 (pos n))
     ∷ lookups 3
     ∷ lookups 5
+    ∷ lates 6 y
+    ∷ lates 7 x
+    ∷ lates 8 x
+    ∷ saves (replicate 48 n)
+    ∷ loads (gappy 1 2) 2 (replicate 20 (pos n))
     ∷ []
 
+-- by the first reading
 abbrev pub toldLate : ℤ → List Answer
 toldLate x =
     measured (Measured.Refused Refusal.Unsound)
@@ -92,22 +112,47 @@ toldLate x =
     ∷ traced (accepted (now (gappy 1 2) 1 1 1))
     ∷ shown (Found.Refused Refusal.Absent)
     ∷ shown (Found.Level x 0 x x)
+    ∷ traced (accepted (now (gappy 1 2) 2 1 2))
+    ∷ traced (accepted (now (gappy 1 2) 3 1 3))
+    ∷ traced (accepted (now (gappy 1 2) 3 1 4))
+    ∷ filed (Written.Buckets 3)
+    ∷ traced (accepted (now (gappy 1 2) 1 1 1))
     ∷ []
 
+-- ---- files from elsewhere
+
+-- tick 0 with a reading of these bytes, and a record that breaks a rule, of others; then a byte that is no record
+abbrev pub given : List ℕ → List ℕ → List (List ℕ)
+given v w = (replicate 4 0 ++ (1 ∷ 0 ∷ 0 ∷ 0 ∷ []) ++ v ++ v ++ replicate 8 0 ++ w ++ w) ∷ (1 ∷ []) ∷ []
+
+-- -3 and 0, 998 and 1,001
+abbrev pub files : List (List ℕ)
+files = given (253 ∷ 255 ∷ 255 ∷ 255 ∷ []) (0 ∷ 0 ∷ 0 ∷ 0 ∷ [])
+
+abbrev pub filesMoved : List (List ℕ)
+filesMoved = given (230 ∷ 3 ∷ 0 ∷ 0 ∷ []) (233 ∷ 3 ∷ 0 ∷ 0 ∷ [])
+
+abbrev pub fileCalls : List Call
+fileCalls = loads (inOrder 1) 0 (replicate 12 (pos 7)) ∷ loads (inOrder 1) 1 (replicate 12 (pos 7)) ∷ []
+
+abbrev pub toldFiles : List Answer
+toldFiles = traced (refused (Refusal.Record 1)) ∷ traced (refused Refusal.Length) ∷ []
+
 pub record ByHand : Type 0 where
-  pub near-ground : answers fresh (calls (negsuc 2) (pos 0) (pos 50)) ≡ told (negsuc 1) (negsuc 2) (pos 0) (pos 50)
-  pub with-offset : answers fresh (calls (pos 998) (pos 1001) (pos 1051)) ≡ told (pos 999) (pos 998) (pos 1001) (pos 1051)
-  pub late-near-ground : answers fresh (lateCalls (negsuc 2) (pos 50)) ≡ toldLate (negsuc 2)
-  pub late-with-offset : answers fresh (lateCalls (pos 998) (pos 1051)) ≡ toldLate (pos 998)
-  -- the tally counts the readings, and a merge in order
-  pub tallied : after fresh (calls (negsuc 2) (pos 0) (pos 50)) .tally ≡ record { accepted = 3; refused = 0; merges = 1 }
-  pub late-tallied : after fresh (lateCalls (negsuc 2) (pos 50)) .tally ≡ record { accepted = 2; refused = 2; merges = 0 }
-  -- the promise speaks of these callers
+  pub near-ground : answers (fresh []) (calls 7 (negsuc 2) (pos 0) (pos 50)) ≡ told (negsuc 1) (negsuc 2) (pos 0) (pos 50)
+  pub with-offset : answers (fresh []) (calls 9 (pos 998) (pos 1001) (pos 1051)) ≡ told (pos 999) (pos 998) (pos 1001) (pos 1051)
+  pub late-near-ground : answers (fresh []) (lateCalls 7 (negsuc 2) (pos 50)) ≡ toldLate (negsuc 2)
+  pub late-with-offset : answers (fresh []) (lateCalls 9 (pos 998) (pos 1051)) ≡ toldLate (pos 998)
+  pub files-near-ground : answers (fresh files) fileCalls ≡ toldFiles
+  pub files-with-offset : answers (fresh filesMoved) fileCalls ≡ toldFiles
+  -- the tally counts readings and merges, and neither an open nor a load changes it
+  pub tallied : after (fresh []) (calls 7 (negsuc 2) (pos 0) (pos 50)) .tally ≡ record { accepted = 4; refused = 0; merges = 2 }
+  pub late-tallied : after (fresh []) (lateCalls 7 (negsuc 2) (pos 50)) .tally ≡ record { accepted = 5; refused = 2; merges = 1 }
+  -- the promise speaks of these callers, who have rooms and outputs of their own
+  pub calls-higher : AllHigher (pos 1001) (calls 7 (negsuc 2) (pos 0) (pos 50)) (calls 9 (pos 998) (pos 1001) (pos 1051))
+  pub late-higher : AllHigher (pos 1001) (lateCalls 7 (negsuc 2) (pos 50)) (lateCalls 9 (pos 998) (pos 1051))
   pub no-files : FilesMoved (pos 1001) [] []
-  pub calls-fit : AllFit (pos 1001) (calls (negsuc 2) (pos 0) (pos 50))
-  pub calls-higher : map (higher (pos 1001)) (calls (negsuc 2) (pos 0) (pos 50)) ≡ calls (pos 998) (pos 1001) (pos 1051)
-  pub late-fit : AllFit (pos 1001) (lateCalls (negsuc 2) (pos 50))
-  pub late-higher : map (higher (pos 1001)) (lateCalls (negsuc 2) (pos 50)) ≡ lateCalls (pos 998) (pos 1051)
+  pub files-moved : FilesMoved (pos 1001) files filesMoved
   -- and d may be as far as the range is wide, either way
-  pub far-up : AllFit (pos 4294967295) (nexts (negsuc 2147483647) ∷ lates 0 (negsuc 2147483647) ∷ [])
-  pub far-down : AllFit (negsuc 4294967294) (nexts (pos 2147483647) ∷ lates 0 (pos 2147483647) ∷ [])
+  pub far-up : AllHigher (pos 4294967295) (nexts (negsuc 2147483647) ∷ lates 9 (negsuc 2147483647) ∷ []) (nexts (pos 2147483647) ∷ lates 9 (pos 2147483647) ∷ [])
+  pub far-down : AllHigher (negsuc 4294967294) (nexts (pos 2147483647) ∷ lates 9 (pos 2147483647) ∷ []) (nexts (negsuc 2147483647) ∷ lates 9 (negsuc 2147483647) ∷ [])

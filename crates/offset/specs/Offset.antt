@@ -2,7 +2,7 @@
 use Prim.Native.Nat.{ℕ, _+_, _/_}
 use mathlib.Core.Path.{_≡_}
 use mathlib.Core.Bool.{true}
-use mathlib.Core.List.{List, [], _∷_, map}
+use mathlib.Core.List.{List, [], _∷_, map, List·Memᴰ}
 use lib.IntN.{ℤ, pos, _+ℤ_}
 use lib.ListN.{getD, length}
 use lib.Signed.{leZ}
@@ -69,7 +69,7 @@ pub data AllHigher (d : ℤ) : List Call → List Call → Type 0 where
   none : AllHigher d [] []
   each : {x y : Call} {xs ys : List Call} → Higher d x y → AllHigher d xs ys → AllHigher d (x ∷ xs) (y ∷ ys)
 
--- such is every call whose reading fits 32 bits, and fits them with d: the same call, its reading d more
+-- the same call, its reading d more, in the same room or output
 unfoldable pub higher : ℤ → Call → Call
 higher d (opens g l) = opens g l
 higher d (nexts v) = nexts (v +ℤ d)
@@ -80,19 +80,17 @@ higher d (rows out) = rows out
 higher d (saves out) = saves out
 higher d (loads g i l) = loads g i l
 
-unfoldable pub Fits : ℤ → Call → Type 0
-Fits d (opens g l) = Unit {0}
-Fits d (nexts v) = (signed v ≡ true) × (signed (v +ℤ d) ≡ true)
-Fits d (lates tick v) = (signed v ≡ true) × (signed (v +ℤ d) ≡ true)
-Fits d (lookups tick) = Unit {0}
-Fits d worsts = Unit {0}
-Fits d (rows out) = Unit {0}
-Fits d (saves out) = Unit {0}
-Fits d (loads g i l) = Unit {0}
-
-unfoldable pub AllFit : ℤ → List Call → Type 0
-AllFit d [] = Unit {0}
-AllFit d (x ∷ xs) = Fits d x × AllFit d xs
+-- the readings that calls are fed with
+unfoldable pub readingsIn : List Call → List ℤ
+readingsIn [] = []
+readingsIn (opens g l ∷ xs) = readingsIn xs
+readingsIn (nexts v ∷ xs) = v ∷ readingsIn xs
+readingsIn (lates tick v ∷ xs) = v ∷ readingsIn xs
+readingsIn (lookups tick ∷ xs) = readingsIn xs
+readingsIn (worsts ∷ xs) = readingsIn xs
+readingsIn (rows out ∷ xs) = readingsIn xs
+readingsIn (saves out ∷ xs) = readingsIn xs
+readingsIn (loads g i l ∷ xs) = readingsIn xs
 
 -- what the second caller has is what the first has, d higher: the same state, and every bucket with the same ticks, moved
 pub record Alike (d : ℤ) (c e : Caller) : Type 0 where
@@ -119,5 +117,5 @@ pub record Offset : Type 0 where
   pub answers : (d : ℤ) (c e : Caller) → Alike d c e → (xs ys : List Call) → AllHigher d xs ys → answers e ys ≡ map (movedAnswer d) (answers c xs)
   -- they stay alike
   pub leaves : (d : ℤ) (c e : Caller) → Alike d c e → (xs ys : List Call) → AllHigher d xs ys → Alike d (after c xs) (after e ys)
-  -- and no calls are left out
-  pub any : (d : ℤ) (xs : List Call) → AllFit d xs → AllHigher d xs (map (higher d) xs)
+  -- and no calls are left out whose readings fit 32 bits, and fit them with d
+  pub any : (d : ℤ) (xs : List Call) → ((v : ℤ) → List·Memᴰ v (readingsIn xs) → (signed v ≡ true) × (signed (v +ℤ d) ≡ true)) → AllHigher d xs (map (higher d) xs)

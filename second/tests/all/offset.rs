@@ -3,7 +3,7 @@
 use crate::support::Trace;
 use second::calls::{self, Held};
 use second::random::Random;
-use second::rule::{worst_error, Bucket, Kind};
+use second::rule::{Bucket, Kind};
 
 const LOWEST: i64 = i32::MIN as i64;
 const HIGHEST: i64 = i32::MAX as i64;
@@ -38,8 +38,9 @@ fn feed(trace: &mut Trace, tick: u32, value: i32) -> Result<(), calls::Refusal> 
 #[test]
 fn an_offset_moves_every_level() {
     let mut random = Random::new(41);
-    // Odd sums that are below zero in one trace and above in the other: cut toward zero, their levels would be one too near.
+    // Odd sums that are below zero in one trace and above in the other: cut toward zero, their levels would be one off.
     let mut moved_across = 0;
+    let mut refused = 0;
     for number in 0..4_000 {
         let offset = match number % 4 {
             0 => 1_001,
@@ -56,10 +57,9 @@ fn an_offset_moves_every_level() {
             let tick = random.below(40) as u32;
             let value = fitting_value(&mut random, offset);
             let raised = (i64::from(value) + offset) as i32;
-            assert_eq!(
-                feed(&mut trace, tick, value),
-                feed(&mut other, tick, raised)
-            );
+            let answer = feed(&mut trace, tick, value);
+            assert_eq!(feed(&mut other, tick, raised), answer);
+            refused += u64::from(answer.is_err());
             assert_eq!((trace.state, trace.tally), (other.state, other.tally));
             let asked = random.below(42) as u32;
             let held = calls::lookup(trace.state, &trace.room, asked);
@@ -70,14 +70,17 @@ fn an_offset_moves_every_level() {
                 ..held
             });
             assert_eq!(calls::lookup(other.state, &other.room, asked), expected);
-            if random.below(8) == 0 {
-                other = other.reloaded();
+            match random.below(16) {
+                0 => trace = trace.reloaded(),
+                1 => other = other.reloaded(),
+                _ => {}
             }
         }
         let buckets = trace.buckets();
         let expected: Vec<Bucket> = buckets.iter().map(|bucket| moved(bucket, offset)).collect();
         assert_eq!(other.buckets(), expected);
-        assert_eq!(worst_error(&expected), worst_error(&buckets));
+        let worst = calls::worst(trace.state, &trace.room);
+        assert_eq!(calls::worst(other.state, &other.room), worst);
         let across = |bucket: &&Bucket| {
             let sum = bucket.least + bucket.largest;
             sum % 2 != 0 && (sum < 0) != (sum + 2 * offset < 0)
@@ -88,4 +91,5 @@ fn an_offset_moves_every_level() {
         moved_across > 500,
         "{moved_across} odd sums move across zero"
     );
+    assert!(refused > 5_000, "{refused} readings are refused");
 }

@@ -25,14 +25,14 @@ halved-less c =
     let a = c .before .args .a in
     let b = c .before .args .b in
     let s = a +ℤ b in
-    omega (whole, rw (sum-held w64 tt (f .a) (f .b)) at (c .if1 .taken), cut-up (s -ℤ pos 1), cut-down (s -ℤ pos 1), difference s (pos 1), middle-up a b, middle-down a b, one-side s, one-side (s -ℤ pos 1))
+    omega (whole, f .a, f .b, sum a b, rw (sum-held w64 tt (f .a) (f .b)) at (c .if1 .taken), cut-up (s -ℤ pos 1), cut-down (s -ℤ pos 1), difference s (pos 1), middle-up a b, middle-down a b, one-side s, one-side (s -ℤ pos 1))
 
 halved : (c : tie.Else1) → let p = c .before .args in quotZ (p .a +ℤ p .b) (pos 2) ≡ middle (p .a) (p .b)
 halved c =
     let f = c .before .fits in
     let a = c .before .args .a in
     let b = c .before .args .b in
-    omega (whole, rw (sum-held w64 tt (f .a) (f .b)) at (c .if1 .left), cut-up (a +ℤ b), cut-down (a +ℤ b), middle-up a b, middle-down a b, one-side (a +ℤ b))
+    omega (whole, f .a, f .b, sum a b, rw (sum-held w64 tt (f .a) (f .b)) at (c .if1 .left), cut-up (a +ℤ b), cut-down (a +ℤ b), middle-up a b, middle-down a b, one-side (a +ℤ b))
 
 pub middle-spec : {M : Type 1} → statement M
 middle-spec =

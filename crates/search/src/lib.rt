@@ -1,0 +1,75 @@
+// Where the pin first goes over: the first bucket of a range whose largest reading is at or above a bar.
+ghost use mathlib.Core.Path.{_≡_};
+ghost use Rattle.over.specs.Search.{firstOver, over, searchOutcome, sought, touches};
+ghost use Rattle.rule.specs.Room.{slots};
+ghost use Rattle.slots.specs.Slots.{Filled};
+use over::Sought;
+use rule::Bucket;
+use rule::Refusal;
+use rule::TICKS;
+use slots::read;
+use sound::sound;
+use trace::Trace;
+
+// A tick from `first` to `last` is in the bucket.
+pub(crate) fn touches(first: u32, last: u32, b: Bucket) -> bool
+    ensures { λ r. ⌜ r ≡ touches first last b ⌝ }
+{
+    let past = last as usize + 1;
+    let end = bucket::end(b);
+    if past <= first as usize {
+        return false;
+    }
+    if end <= first as usize {
+        return false;
+    }
+    if past <= b.start as usize {
+        return false;
+    }
+    (b.start as usize) < end
+}
+
+pub(crate) fn over(first: u32, last: u32, bar: i32, b: Bucket) -> bool
+    ensures { λ r. ⌜ r ≡ over first last bar b ⌝ }
+{
+    if b.largest < bar {
+        return false;
+    }
+    touches(first, last, b)
+}
+
+// One pass over the slots in use, left at the first bucket that is over.
+pub(crate) fn first_hit(room: &[i64], used: usize, first: u32, last: u32, bar: i32) -> Sought
+    requires { ⌜ Filled (now room) used ⌝ }
+    ensures { λ r. ⌜ r ≡ sought (firstOver first last bar 0 (slots (now (room .entry)) 0 used)) ⌝ }
+{
+    let mut i = 0;
+    while i < used {
+        let b = read(room, i);
+        if over(first, last, bar, b) {
+            return Sought::At {
+                index: i,
+                start: b.start,
+            };
+        }
+        i += 1;
+    }
+    Sought::Nowhere
+}
+
+// The first bucket that holds a tick from `first` to `last` and whose largest reading is at or above the bar.
+pub fn first_over(trace: Trace, room: &[i64], first: u32, last: u32, bar: i32) -> Sought
+    ensures { λ r. ⌜ r ≡ searchOutcome (trace .state) (now (room .entry)) first last bar ⌝ }
+{
+    let s = trace.state;
+    if !sound(s, room) {
+        return Sought::Refused(Refusal::Unsound);
+    }
+    if TICKS <= first as usize {
+        return Sought::Refused(Refusal::Tick);
+    }
+    if TICKS <= last as usize {
+        return Sought::Refused(Refusal::Tick);
+    }
+    first_hit(room, s.used, first, last, bar)
+}

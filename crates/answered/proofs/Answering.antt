@@ -32,11 +32,12 @@ use Rattle.room.specs.Steps.{Ready}
 use Rattle.room.proofs.Sounding.{sound-facts, used-needed}
 use Rattle.room.proofs.Taking.{taken-short}
 use Rattle.trace.proofs.Leaving.{late-either, next-either, open-either}
+use Rattle.over.specs.Search.{firstOver, searchOutcome, sought, soughtOf}
 use Rattle.worst.specs.Outcome.{measured, worstOutcome}
 use Rattle.saved.proofs.Filing.{load-accepts, load-leaves, loads-needed}
 use Rattle.answered.proofs.Outcomes.{traced-refused}
 use Rattle.rule.proofs.Whole.{by-test}
-use Rattle.answered.specs.Answered.{Answered, Demand1, Lawful, Row, fileRows, firstOf, lateRows, lookupRows, nextRows, openRows, outside, refusing, said, slotsNeeded, saidFound, saidMeasured, saidWritten, worstRows, writeRows}
+use Rattle.answered.specs.Answered.{Answered, Demand1, Lawful, Row, fileRows, firstOf, lateRows, lookupRows, nextRows, openRows, outside, refusing, said, slotsNeeded, saidFound, saidMeasured, saidSought, saidWritten, searchRows, worstRows, writeRows}
 
 -- ---- a call's checks and the table's rows
 
@@ -148,6 +149,20 @@ looked s l tick =
     (λ fit. by-test (leb ticks tick) (λ h. rw (fit, h)) (λ h. rw (fit, h) (absent (holding tick (tableOf s l)))))
     (λ fit. rw fit)
 
+found-said : (h : Option (ℕ × ℕ)) → saidSought (sought h) ≡ none
+unfolding sought saidSought
+found-said none = refl
+found-said (some h) = refl
+
+search-said : (s : State) (l : List ℤ) (first last : ℕ) (bar : ℤ) → saidSought (searchOutcome s l first last bar) ≡ firstOf (searchRows s l first last)
+unfolding searchOutcome soughtOf checked firstOf saidSought
+search-said s l first last bar =
+    by-test (sound s l)
+    (λ fit. by-test (leb ticks first)
+    (λ h. rw (fit, h))
+    (λ h. by-test (leb ticks last) (λ k. rw (fit, h, k)) (λ k. rw (fit, h, k) (found-said (firstOver first last bar 0 (tableOf s l))))))
+    (λ fit. rw fit)
+
 worst-said : (s : State) (l : List ℤ) → saidMeasured (worstOutcome s l) ≡ firstOf (worstRows s l)
 unfolding worstOutcome measured checked firstOf saidMeasured
 worst-said s l = by-test (sound s l) (λ fit. rw fit) (λ fit. rw fit)
@@ -249,6 +264,7 @@ demand1 = record {
   lates = λ s l tick v. answered (s .settings) l (lateVerdict s l tick v) (lateRows s l tick v)
       (said-all _ _ ∙ by-test (late (s .settings .kind)) (λ h. rw (accepted-runs (s .settings) (tableOf s l) tick v h)) (λ h. rw h));
   lookups = λ s l tick. looked s l tick;
+  searches = search-said;
   worsts = worst-said;
   rows = λ s l out. written (λ t. t) out (writeVerdict s l (s .used) (length out)) (writeRows s l (length out) (s .used)) (writes s l (length out) (s .used));
   saves = λ s l out. written saved out (writeVerdict s l (recordWidth * s .used) (length out)) (writeRows s l (length out) (recordWidth * s .used)) (writes s l (length out) (recordWidth * s .used));

@@ -22,6 +22,8 @@ use Rattle.rule.specs.Files.{FirstBroken, meets}
 use Rattle.rule.specs.Room.{allOf, signed, sound, tableOf}
 use Rattle.rule.specs.Rules.{firstFault, placeOr, ruled, rules}
 use Rattle.rule.specs.Table.{accept, holding, nextTick, runs}
+use Rattle.over.specs.declared.Sought.{Sought}
+use Rattle.over.specs.Search.{searchOutcome}
 use Rattle.worst.specs.declared.Measured.{Measured}
 use Rattle.worst.specs.Outcome.{worstOutcome}
 
@@ -93,6 +95,13 @@ lookupRows s l tick =
     ∷ refusing 12 (not (isHeld (holding tick (tableOf s l))))
     ∷ []
 
+-- of the search for the first bucket that is over, in a range of ticks: 6 where either end is above the last tick
+abbrev pub searchRows : State → List ℤ → ℕ → ℕ → List Row
+searchRows s l first last =
+    refusing 4 (not (sound s l))
+    ∷ refusing 6 (leb 16777216 first || leb 16777216 last)
+    ∷ []
+
 -- of the worst error
 abbrev pub worstRows : State → List ℤ → List Row
 worstRows s l = refusing 4 (not (sound s l)) ∷ []
@@ -117,6 +126,11 @@ saidFound (Found.Level level error least largest) = none
 unfoldable pub saidWritten : Written → Option (ℕ × ℕ)
 saidWritten (Written.Refused r) = some (number r, place r)
 saidWritten (Written.Buckets n) = none
+
+unfoldable pub saidSought : Sought → Option (ℕ × ℕ)
+saidSought (Sought.Refused r) = some (number r, place r)
+saidSought (Sought.At index start) = none
+saidSought Sought.Nowhere = none
 
 unfoldable pub saidMeasured : Measured → Option (ℕ × ℕ)
 saidMeasured (Measured.Refused r) = some (number r, place r)
@@ -145,6 +159,7 @@ pub record Demand1 : Type 0 where
   pub nexts : (s : State) (l : List ℤ) (v : ℤ) → let o = nextOutcome s l v in Answered (said (o .0)) (nextRows s l) l (o .1)
   pub lates : (s : State) (l : List ℤ) (tick : ℕ) (v : ℤ) → let o = lateOutcome s l tick v in Answered (said (o .0)) (lateRows s l tick v) l (o .1)
   pub lookups : (s : State) (l : List ℤ) (tick : ℕ) → saidFound (lookupOutcome s l tick) ≡ firstOf (lookupRows s l tick)
+  pub searches : (s : State) (l : List ℤ) (first last : ℕ) (bar : ℤ) → saidSought (searchOutcome s l first last bar) ≡ firstOf (searchRows s l first last)
   pub worsts : (s : State) (l : List ℤ) → saidMeasured (worstOutcome s l) ≡ firstOf (worstRows s l)
   pub rows : (s : State) (l : List ℤ) (out : List Bucket) → let o = rowOutcome s l out in Answered (saidWritten (o .0)) (writeRows s l (length out) (s .used)) out (o .1)
   pub saves : (s : State) (l : List ℤ) (out : List ℕ) → let o = saveOutcome s l out in Answered (saidWritten (o .0)) (writeRows s l (length out) (16 * s .used)) out (o .1)

@@ -10,6 +10,7 @@ use borrow.Author.Tests.{le-ltb, lt-leb}
 use lib.Dec.{leb}
 use lib.IntN.{ℤ}
 use lib.ListN.{drop, length, take}
+use Rattle.rule.specs.declared.Bucket.{Bucket}
 use Rattle.rule.specs.declared.Refusal.{Refusal}
 use Rattle.rule.specs.declared.Refusal.the-variants.{Steps, Gaps, Room, Unsound, Kind, Tick, Length, Record, Runs, Overfull, Taken, Absent, Short, Line}
 use Rattle.rule.specs.declared.Settings.{Settings}
@@ -31,6 +32,10 @@ use Rattle.slots.proofs.Laying.{length-slots}
 use Rattle.room.proofs.Placing.{held-counts}
 use Rattle.room.proofs.Sounding.{sound-facts, sound-ordered}
 use Rattle.trace.specs.Answers.{answer, answered}
+use Rattle.over.specs.declared.Sought.{Sought}
+use Rattle.over.specs.Promise.{First, Over, allOver, answerOf}
+use Rattle.over.specs.Search.{searchOutcome, soughtOf}
+use Rattle.over.proofs.Searching as searching
 use Rattle.worst.specs.declared.Measured.{Measured}
 use Rattle.worst.specs.Outcome.{measured, worstOutcome}
 use Rattle.saved.proofs.RoundTrips.{loaded-saved, saved-loaded}
@@ -40,11 +45,11 @@ use Rattle.fields.specs.declared.Fields.{Fields}
 use Rattle.fields.specs.declared.Named.{Named}
 use Rattle.plain.specs.declared.Reply.{Reply}
 use Rattle.fields.specs.States.{fieldsOf, kindOf, none, numberOf, settingsOf, stateFrom}
-use Rattle.plain.specs.Plain.{erring, lookupReply, replied, replying, showing, telling, told, worstReply}
+use Rattle.plain.specs.Plain.{erring, lookupReply, pointing, replied, replying, searchReply, showing, telling, told, worstReply}
 use Rattle.fields.proofs.SameState.{same-state}
-use Rattle.answered.specs.Answered.{Answered, Row, fileRows, firstOf, lateRows, lookupRows, nextRows, openRows, said, saidFound, saidMeasured, saidWritten, worstRows, writeRows}
+use Rattle.answered.specs.Answered.{Answered, Row, fileRows, firstOf, lateRows, lookupRows, nextRows, openRows, said, saidFound, saidMeasured, saidSought, saidWritten, searchRows, worstRows, writeRows}
 use Rattle.promises.specs.Reached.{Reached}
-use Rattle.exported.specs.Exported.{Called, Counts, Errs, ExportedDemand1, ExportedDemand2, Promised, Replies, Shows, Tallies, firstDue, wroteAll}
+use Rattle.exported.specs.Exported.{Called, Counts, Errs, ExportedDemand1, ExportedDemand2, ExportedSearch, Points, Promised, Replies, Shows, Tallies, firstDue, wroteAll}
 use Rattle.answered.proofs.Answering.{demand1, needed-is}
 use Rattle.promises.proofs.Keeping.{held-small, keeps, kept-same, kept-twice, loaded-kept}
 use Rattle.answered.proofs.Outcomes.{next-in-order}
@@ -92,6 +97,12 @@ unfolding saidFound showing
 shows-found (Found.Refused r) rows e = record { exactly = ap saying e ∙ sym (due rows); zeros = λ h. refl }
 shows-found (Found.Level level error least largest) rows e = record { exactly = ap saying e ∙ sym (due rows); zeros = λ h. absurd (h refl) }
 
+points : (s : Sought) (rows : List Row) → saidSought s ≡ firstOf rows → Points rows (pointing s)
+unfolding saidSought pointing
+points (Sought.Refused r) rows e = record { exactly = ap saying e ∙ sym (due rows); zeros = λ h. refl }
+points Sought.Nowhere rows e = record { exactly = ap saying e ∙ sym (due rows); zeros = λ h. absurd (h refl) }
+points (Sought.At index start) rows e = record { exactly = ap saying e ∙ sym (due rows); zeros = λ h. absurd (h refl) }
+
 errs : (m : Measured) (rows : List Row) → saidMeasured m ≡ firstOf rows → Errs rows (erring m)
 unfolding saidMeasured erring
 errs (Measured.Refused r) rows e = record { exactly = ap saying e ∙ sym (due rows); none-told = λ h. refl }
@@ -108,7 +119,7 @@ eight back (refused r) e = ap (λ (n : ℕ). some (n, place r)) e
 eight back (accepted s) e = absurd (omega arith)
 
 pub exported-demand1 : ExportedDemand1
-unfolding sound clauses allOf stepsGood nextVerdict lateVerdict lookupOutcome foundOf writeVerdict worstOutcome measured checked traced wrote answer replying showing telling erring kindOf
+unfolding sound clauses allOf stepsGood nextVerdict lateVerdict lookupOutcome foundOf writeVerdict searchOutcome soughtOf worstOutcome measured checked traced wrote answer replying showing telling pointing erring kindOf
 exported-demand1 = record {
   opens = λ named l. let g = settingsOf named in replies none (opened g l .0) (openRows g l) l (opened g l .1) (demand1 .opens g l);
   nexts = λ f l v. let s = stateFrom f in replies f (nextOutcome s l v .0) (nextRows s l) l (nextOutcome s l v .1) (demand1 .nexts s l v);
@@ -116,6 +127,7 @@ exported-demand1 = record {
   next-tallies = λ f l v. tallies f (f .used) (nextOutcome (stateFrom f) l v .0);
   late-tallies = λ f l tick v. tallies f (f .used) (lateOutcome (stateFrom f) l tick v .0);
   lookups = λ f l tick. let s = stateFrom f in shows-found (lookupOutcome s l tick) (lookupRows s l tick) (demand1 .lookups s l tick);
+  searches = λ f l first last bar. let s = stateFrom f in points (searchOutcome s l first last bar) (searchRows s l first last) (demand1 .searches s l first last bar);
   worsts = λ f l. let s = stateFrom f in errs (worstOutcome s l) (worstRows s l) (demand1 .worsts s l);
   rows = λ f l out. let s = stateFrom f in counts (rowOutcome s l out .0) (writeRows s l (length out) (f .used)) out (rowOutcome s l out .1) (demand1 .rows s l out);
   saves = λ f l out. let s = stateFrom f in counts (saveOutcome s l out .0) (writeRows s l (length out) (recordWidth * f .used)) out (saveOutcome s l out .1) (demand1 .saves s l out);
@@ -123,7 +135,42 @@ exported-demand1 = record {
   places = λ named file l e. let g = settingsOf named in demand1 .places g file l (replying none (answer (loaded g file l .0)) .place) (eight none (loaded g file l .0) e);
   kinds = (refl, λ n. refl);
   unsound = λ l. refl;
-  unusable = λ l tick v out bytes. refl;
+  unusable = λ l tick last v out bytes. refl;
+}
+
+-- ---- the search, by what is found
+
+module _ (t : Table) (first last : ℕ) (bar : ℤ) where
+  one-or-none : (s : Sought) → pointing s .found ≢ 1 → pointing s .found ≡ 0
+  unfolding pointing
+  one-or-none (Sought.At index start) h = absurd (h refl)
+  one-or-none Sought.Nowhere h = refl
+  one-or-none (Sought.Refused r) h = refl
+
+  hits : (s : Sought) → ((index start : ℕ) → s ≡ Sought.At index start → First first last bar t index start) → pointing s .found ≡ 1 → First first last bar t (pointing s .index) (pointing s .start)
+  unfolding pointing
+  hits (Sought.At index start) f e = f index start refl
+  hits Sought.Nowhere f e = absurd (omega arith)
+  hits (Sought.Refused r) f e = absurd (omega arith)
+
+  misses : (s : Sought) → (s ≡ Sought.Nowhere → (b : Bucket) → List·Memᴰ b t → Over first last bar b → ⊥) → pointing s .refusal ≡ 0 → pointing s .found ≡ 0 → (b : Bucket) → List·Memᴰ b t → Over first last bar b → ⊥
+  unfolding pointing
+  misses (Sought.At index start) f z e = absurd (omega arith)
+  misses Sought.Nowhere f z e = f refl
+  misses (Sought.Refused r) f z e = absurd (omega (arith, numbered r))
+
+  zeros : (s : Sought) → pointing s .found ≡ 0 → (pointing s .index ≡ 0) × (pointing s .start ≡ 0)
+  unfolding pointing
+  zeros (Sought.At index start) e = absurd (omega arith)
+  zeros Sought.Nowhere e = (refl, refl)
+  zeros (Sought.Refused r) e = (refl, refl)
+
+pub exported-search : ExportedSearch
+exported-search = record {
+  one-or-none = λ f l first last bar. one-or-none (tableOf (stateFrom f) l) first last bar (searchOutcome (stateFrom f) l first last bar);
+  hits = λ f l first last bar. let s = stateFrom f in hits (tableOf s l) first last bar (searchOutcome s l first last bar) (searching.searches .hits s l first last bar);
+  misses = λ f l first last bar. let s = stateFrom f in misses (tableOf s l) first last bar (searchOutcome s l first last bar) (searching.searches .misses s l first last bar);
+  zeros = λ f l first last bar. zeros (tableOf (stateFrom f) l) first last bar (searchOutcome (stateFrom f) l first last bar);
 }
 
 -- ---- a reply, taken apart by its refusal
@@ -265,6 +312,7 @@ promises {named} {rs} {f} {l} c =
       worst-told = worst-of f l (k .fit) ∙ ap (λ (x : Table). record { refusal = 0; place = 0; error = worst x }) (k .buckets);
       worst-within = λ curve E few near. subst (λ (x : Table). worst x ≤ E) (k .buckets) (k .picture curve E few near .1);
       lookups = λ tick b m h. ap showing (k .lookups tick b (subst (List·Memᴰ b) (sym (k .buckets)) m) h);
+      searches = λ first last bar h g. ap pointing (searching.searches .as-all (stateFrom f) l first last bar (k .fit) h g ∙ ap (λ (x : Table). answerOf (allOver first last bar 0 x)) (k .buckets));
       covers = λ tick.
           looked f l tick (arrived tick rs) (k .fit)
           (same-test (isHeld (holding tick t)) (arrived tick rs) (sym (held-counts 0 tick t (sound-ordered (stateFrom f) l facts)) ∙ k .covers tick))

@@ -14,9 +14,10 @@ use Rattle.rule.specs.Bucket.{distance, error, level}
 use Rattle.rule.specs.Bytes.{saved}
 use Rattle.rule.specs.Calls.{kept, late}
 use Rattle.rule.specs.Files.{FirstBroken}
-use Rattle.rule.specs.Room.{signed, sound}
+use Rattle.rule.specs.Room.{signed, sound, tableOf}
 use Rattle.rule.specs.Table.{Table, holds, worst}
 use Rattle.saved.specs.Bytes.{AllBytes}
+use Rattle.over.specs.Promise.{First, Over, allOver, answerOf}
 use Rattle.demands.specs.Curve as curve
 use Rattle.demands.specs.Curve.{Curve}
 use Rattle.demands.specs.History.{Reading, arrived, runsOf, tableAfter}
@@ -24,12 +25,13 @@ use Rattle.demands.specs.Served.{Near}
 use Rattle.plain.specs.declared.Counted.{Counted}
 use Rattle.fields.specs.declared.Fields.{Fields}
 use Rattle.fields.specs.declared.Named.{Named}
+use Rattle.plain.specs.declared.Hit.{Hit}
 use Rattle.plain.specs.declared.Reply.{Reply}
 use Rattle.plain.specs.declared.Shown.{Shown}
 use Rattle.plain.specs.declared.WorstError.{WorstError}
 use Rattle.fields.specs.States.{fieldsOf, kindOf, none, numberOf, settingsOf, stateFrom}
-use Rattle.plain.specs.Plain.{lateReply, lateTally, loadReply, lookupReply, nextReply, nextTally, openReply, rowReply, saveReply, worstReply}
-use Rattle.answered.specs.Answered.{Row, fileRows, lateRows, lookupRows, mostSteps, nextRows, openRows, slotsNeeded, worstRows, writeRows}
+use Rattle.plain.specs.Plain.{lateReply, lateTally, loadReply, lookupReply, nextReply, nextTally, openReply, pointing, rowReply, saveReply, searchReply, worstReply}
+use Rattle.answered.specs.Answered.{Row, fileRows, lateRows, lookupRows, mostSteps, nextRows, openRows, searchRows, slotsNeeded, worstRows, writeRows}
 use Rattle.promises.specs.Demands.{Upheld}
 use Rattle.promises.specs.Reached.{SameSettings}
 
@@ -49,6 +51,11 @@ pub record Replies (rows : List Row) (back : Fields) (before after : List ℤ) (
 pub record Shows (rows : List Row) (s : Shown) : Type 0 where
   pub exactly : (s .refusal, s .place) ≡ firstDue rows
   pub zeros : s .refusal ≢ 0 → s ≡ record { refusal = s .refusal; place = s .place; level = pos 0; error = 0; least = pos 0; largest = pos 0 }
+
+-- of the search, which writes nothing; refused, its other numbers are 0
+pub record Points (rows : List Row) (h : Hit) : Type 0 where
+  pub exactly : (h .refusal, h .place) ≡ firstDue rows
+  pub zeros : h .refusal ≢ 0 → h ≡ record { refusal = h .refusal; place = h .place; found = 0; index = 0; start = 0 }
 
 -- of the worst error, which writes nothing; refused, it is 0
 pub record Errs (rows : List Row) (w : WorstError) : Type 0 where
@@ -74,6 +81,7 @@ pub record ExportedDemand1 : Type 0 where
   pub next-tallies : (f : Fields) (l : List ℤ) (v : ℤ) (t : Tally) → Tallies (f .used) (nextReply f l v .0) t (nextTally f l v t)
   pub late-tallies : (f : Fields) (l : List ℤ) (tick : ℕ) (v : ℤ) (t : Tally) → Tallies (f .used) (lateReply f l tick v .0) t (lateTally f l tick v t)
   pub lookups : (f : Fields) (l : List ℤ) (tick : ℕ) → Shows (lookupRows (stateFrom f) l tick) (lookupReply f l tick)
+  pub searches : (f : Fields) (l : List ℤ) (first last : ℕ) (bar : ℤ) → Points (searchRows (stateFrom f) l first last) (searchReply f l first last bar)
   pub worsts : (f : Fields) (l : List ℤ) → Errs (worstRows (stateFrom f) l) (worstReply f l)
   -- a record a bucket
   pub rows : (f : Fields) (l : List ℤ) (out : List Bucket) → let o = rowReply f l out in Counts (writeRows (stateFrom f) l (length out) (f .used)) out (o .1) (o .0)
@@ -87,14 +95,24 @@ pub record ExportedDemand1 : Type 0 where
   pub kinds : (kindOf 0 ≡ InOrder) × ((n : ℕ) → kindOf (suc n) ≡ Late)
   -- the zeros that a refused open or load hands back are sound in no room, so no call accepts them
   pub unsound : (l : List ℤ) → sound (stateFrom none) l ≡ false
-  pub unusable : (l : List ℤ) (tick : ℕ) (v : ℤ) (out : List Bucket) (bytes : List ℕ)
-      → nextReply none l v .0 .refusal ∷ lateReply none l tick v .0 .refusal ∷ lookupReply none l tick .refusal ∷ worstReply none l .refusal ∷ rowReply none l out .0 .refusal ∷ saveReply none l bytes .0 .refusal ∷ []
-      ≡ 4 ∷ 4 ∷ 4 ∷ 4 ∷ 4 ∷ 4 ∷ []
+  pub unusable : (l : List ℤ) (tick last : ℕ) (v : ℤ) (out : List Bucket) (bytes : List ℕ)
+      → nextReply none l v .0 .refusal ∷ lateReply none l tick v .0 .refusal ∷ lookupReply none l tick .refusal ∷ searchReply none l tick last v .refusal ∷ worstReply none l .refusal ∷ rowReply none l out .0 .refusal ∷ saveReply none l bytes .0 .refusal ∷ []
+      ≡ 4 ∷ 4 ∷ 4 ∷ 4 ∷ 4 ∷ 4 ∷ 4 ∷ []
+
+-- ---- where the pin first goes over, in the words of over's Promise.antt
+
+pub record ExportedSearch : Type 0 where
+  -- found is 1 or 0; where it is 1, index and start are those of the first bucket that is over
+  pub one-or-none : (f : Fields) (l : List ℤ) (first last : ℕ) (bar : ℤ) → let h = searchReply f l first last bar in h .found ≢ 1 → h .found ≡ 0
+  pub hits : (f : Fields) (l : List ℤ) (first last : ℕ) (bar : ℤ) → let h = searchReply f l first last bar in h .found ≡ 1 → First first last bar (tableOf (stateFrom f) l) (h .index) (h .start)
+  -- where it is 0 and the call is not refused, there is none, and the other numbers are 0
+  pub misses : (f : Fields) (l : List ℤ) (first last : ℕ) (bar : ℤ) → let h = searchReply f l first last bar in h .refusal ≡ 0 → h .found ≡ 0 → (b : Bucket) → List·Memᴰ b (tableOf (stateFrom f) l) → Over first last bar b → ⊥
+  pub zeros : (f : Fields) (l : List ℤ) (first last : ℕ) (bar : ℤ) → let h = searchReply f l first last bar in h .found ≡ 0 → (h .index ≡ 0) × (h .start ≡ 0)
 
 -- ---- demands 2 and 3
 
 -- What a caller can reach from ndz_open with the settings named, each call getting the state and the room as the last one left them:
--- the caller has the state f, and the room holds l, after the accepted readings rs, newest first. Lookup, worst, row and save write neither, and a tallied reading is the reading, for state and room.
+-- the caller has the state f, and the room holds l, after the accepted readings rs, newest first. Lookup, first_over, worst, row and save write neither, and a tallied reading is the reading, for state and room.
 pub data Called (named : Named) : List Reading → Fields → List ℤ → Type 0 where
   -- opened empty, in any room
   opens : {r : Reply} {m : List ℤ} (l : List ℤ) → openReply named l ≡ (r, m) → r .refusal ≡ 0 → Called named [] (r .state) m
@@ -156,6 +174,8 @@ pub record Promised (named : Named) (rs : List Reading) (f : Fields) (l : List �
   -- ndz_lookup shows, at each tick, the level, error, least and largest of the bucket that holds it
   pub lookups : (tick : ℕ) (b : Bucket) → List·Memᴰ b (bucketsOf named rs) → holds tick b ≡ true
       → lookupReply f l tick ≡ record { refusal = 0; place = 0; level = level b; error = error b; least = b .least; largest = b .largest }
+  -- ndz_first_over answers as whoever reads all the buckets of the rule
+  pub searches : (first last : ℕ) (bar : ℤ) → first ≤ 16777215 → last ≤ 16777215 → searchReply f l first last bar ≡ pointing (answerOf (allOver first last bar 0 (bucketsOf named rs)))
   -- ndz_lookup shows exactly the ticks of the accepted readings: any other is refused, above the last tick by 6 and else by 12
   pub covers : (tick : ℕ) → lookupReply f l tick .refusal ≡ cond (arrived tick rs) 0 (cond (leb 16777216 tick) 6 12)
 

@@ -8,6 +8,7 @@ use Rattle.ndezulangi.proofs.ndz_late as late
 use Rattle.ndezulangi.proofs.ndz_next_tallied as next-tallied
 use Rattle.ndezulangi.proofs.ndz_late_tallied as late-tallied
 use Rattle.ndezulangi.proofs.ndz_lookup as lookup
+use Rattle.ndezulangi.proofs.ndz_first_over as first
 use Rattle.ndezulangi.proofs.ndz_worst as worst
 use Rattle.ndezulangi.proofs.ndz_row as row
 use Rattle.ndezulangi.proofs.ndz_level as level
@@ -32,6 +33,9 @@ late-tallied-one M 𝓤 H A mem run κs a g r r′ l l′ = both 𝓤 (λ p q. l
 
 pub lookup-one : OneOutcome lookup.ended (λ M. lookup.clauses)
 lookup-one M 𝓤 H A mem run κs a g r r′ l l′ = by-result 𝓤
+
+pub first-over-one : OneOutcome first.ended (λ M. first.clauses)
+first-over-one M 𝓤 H A mem run κs a g r r′ l l′ = by-result 𝓤
 
 pub worst-one : OneOutcome worst.ended (λ M. worst.clauses)
 worst-one M 𝓤 H A mem run κs a g r r′ l l′ = by-result 𝓤

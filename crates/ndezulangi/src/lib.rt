@@ -2,17 +2,19 @@
 // Each hands on to the call of its name and does nothing of its own.
 ghost use mathlib.Core.Path.{_≡_};
 ghost use Rattle.rule.specs.Bucket.{error, level};
-ghost use Rattle.plain.specs.Plain.{lateReply, lateTally, loadReply, lookupReply, nextReply, nextTally, openReply, rowReply, saveReply, worstReply};
+ghost use Rattle.plain.specs.Plain.{lateReply, lateTally, loadReply, lookupReply, nextReply, nextTally, openReply, rowReply, saveReply, searchReply, worstReply};
 use fields::Fields;
 use fields::Named;
 use fields::none;
 use fields::settings_of;
 use fields::trace_of;
 use plain::Counted;
+use plain::Hit;
 use plain::Reply;
 use plain::Shown;
 use plain::WorstError;
 use plain::erring;
+use plain::pointing;
 use plain::replying;
 use plain::showing;
 use plain::telling;
@@ -80,6 +82,20 @@ pub extern "C" fn ndz_lookup(state: Fields, room: &[i64], tick: u32) -> Shown
 {
     let trace = trace_of(state);
     showing(trace.lookup(room, tick))
+}
+
+#[no_mangle]
+pub extern "C" fn ndz_first_over(
+    state: Fields,
+    room: &[i64],
+    first: u32,
+    last: u32,
+    bar: i32,
+) -> Hit
+    ensures { λ r. ⌜ r ≡ searchReply state (now (room .entry)) first last bar ⌝ }
+{
+    let trace = trace_of(state);
+    pointing(search::first_over(trace, room, first, last, bar))
 }
 
 #[no_mangle]

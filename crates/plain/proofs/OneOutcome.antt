@@ -3,6 +3,7 @@ use Rattle.rule.specs.Outcomes.{OneOutcome}
 use Rattle.rule.proofs.Determined.{by-result}
 use Rattle.plain.proofs.replying as replying
 use Rattle.plain.proofs.showing as showing
+use Rattle.plain.proofs.pointing as pointing
 use Rattle.plain.proofs.telling as telling
 use Rattle.plain.proofs.erring as erring
 
@@ -11,6 +12,9 @@ replying-one M 𝓤 H A mem run κs a g r r′ l l′ = by-result 𝓤
 
 pub showing-one : OneOutcome showing.ended (λ M. showing.clauses)
 showing-one M 𝓤 H A mem run κs a g r r′ l l′ = by-result 𝓤
+
+pub pointing-one : OneOutcome pointing.ended (λ M. pointing.clauses)
+pointing-one M 𝓤 H A mem run κs a g r r′ l l′ = by-result 𝓤
 
 pub telling-one : OneOutcome telling.ended (λ M. telling.clauses)
 telling-one M 𝓤 H A mem run κs a g r r′ l l′ = by-result 𝓤

@@ -8,6 +8,8 @@ use Rattle.rule.specs.declared.Tally.{Tally}
 use Rattle.rule.specs.declared.Written.{Written}
 use Rattle.rule.specs.Answers.{number, place}
 use Rattle.rule.specs.Calls.{counted, lateOutcome, loaded, lookupOutcome, nextOutcome, opened, rowOutcome, saveOutcome}
+use Rattle.over.specs.declared.Sought.{Sought}
+use Rattle.over.specs.Search.{searchOutcome}
 use Rattle.trace.specs.Answers.{answered}
 use Rattle.trace.specs.declared.Answer.{Answer}
 use Rattle.worst.specs.declared.Measured.{Measured}
@@ -17,6 +19,7 @@ use Rattle.fields.specs.declared.Fields.{Fields}
 use Rattle.fields.specs.States.{fieldsOf, none, settingsOf, stateFrom}
 use Rattle.plain.specs.declared.Reply.{Reply}
 use Rattle.plain.specs.declared.Shown.{Shown}
+use Rattle.plain.specs.declared.Hit.{Hit}
 use Rattle.plain.specs.declared.Counted.{Counted}
 use Rattle.plain.specs.declared.WorstError.{WorstError}
 
@@ -33,6 +36,12 @@ replied given a = (replying given (a .0), a .1)
 unfoldable pub showing : Found → Shown
 showing (Found.Level level error least largest) = record { refusal = 0; place = 0; level = level; error = error; least = least; largest = largest }
 showing (Found.Refused r) = record { refusal = number r; place = place r; level = pos 0; error = 0; least = pos 0; largest = pos 0 }
+
+-- found is 1 where there is one, and 0 where there is none; zeros then, and refused too
+unfoldable pub pointing : Sought → Hit
+pointing (Sought.At index start) = record { refusal = 0; place = 0; found = 1; index = index; start = start }
+pointing Sought.Nowhere = record { refusal = 0; place = 0; found = 0; index = 0; start = 0 }
+pointing (Sought.Refused r) = record { refusal = number r; place = place r; found = 0; index = 0; start = 0 }
 
 -- refused: no bucket
 unfoldable pub telling : Written → Counted
@@ -68,6 +77,9 @@ lateTally state room tick value before = counted before (state .used) (lateOutco
 
 abbrev pub lookupReply : Fields → List ℤ → ℕ → Shown
 lookupReply state room tick = showing (lookupOutcome (stateFrom state) room tick)
+
+abbrev pub searchReply : Fields → List ℤ → ℕ → ℕ → ℤ → Hit
+searchReply state room first last bar = pointing (searchOutcome (stateFrom state) room first last bar)
 
 abbrev pub worstReply : Fields → List ℤ → WorstError
 worstReply state room = erring (worstOutcome (stateFrom state) room)

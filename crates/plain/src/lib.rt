@@ -1,8 +1,9 @@
 // Each answer as a plain record for other languages.
 ghost use mathlib.Core.Path.{_≡_};
-ghost use Rattle.plain.specs.Plain.{erring, replying, showing, telling};
+ghost use Rattle.plain.specs.Plain.{erring, pointing, replying, showing, telling};
 use fields::Fields;
 use fields::fields_of;
+use over::Sought;
 use rule::Found;
 use rule::Written;
 use trace::Answer;
@@ -25,6 +26,16 @@ pub struct Shown {
     pub error: u32,
     pub least: i32,
     pub largest: i32,
+}
+
+// Found is 1 where a bucket is over, then its index and its start; zeros where there is none, and where it is refused.
+#[repr(C)]
+pub struct Hit {
+    pub refusal: u32,
+    pub place: usize,
+    pub found: u32,
+    pub index: usize,
+    pub start: u32,
 }
 
 // How many buckets were written; 0 where it is refused.
@@ -84,6 +95,34 @@ pub fn showing(f: Found) -> Shown
             error: 0,
             least: 0,
             largest: 0,
+        },
+    }
+}
+
+pub fn pointing(s: Sought) -> Hit
+    ensures { λ r. ⌜ r ≡ pointing s ⌝ }
+{
+    match s {
+        Sought::At { index, start } => Hit {
+            refusal: 0,
+            place: 0,
+            found: 1,
+            index,
+            start,
+        },
+        Sought::Nowhere => Hit {
+            refusal: 0,
+            place: 0,
+            found: 0,
+            index: 0,
+            start: 0,
+        },
+        Sought::Refused(r) => Hit {
+            refusal: refusal::number(r),
+            place: refusal::place(r),
+            found: 0,
+            index: 0,
+            start: 0,
         },
     }
 }

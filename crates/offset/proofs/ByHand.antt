@@ -16,10 +16,11 @@ use Rattle.rule.specs.Rules.{broken, equal, faultAt, firstFalse, firstFault, fo
 use Rattle.rule.specs.Room.{allOf, allZero, clauses, flat, gapsBounded, gapsGood, laid, ranged, restZero, roomy, runsAllowed, slot, slotRanged, slots, sound, stepsGood, within, zeros}
 use Rattle.rule.specs.Bytes.{bits, bytes, reading, recordAt, records, recordsOf, saved, savedRecord, wordAt}
 use Rattle.rule.specs.Calls.{admitted, checked, counted, fileVerdict, found, foundOf, gapsKept, grown, isHeld, late, lateVerdict, lookupOutcome, nextVerdict, traced, writeVerdict, wrote}
+use Rattle.over.specs.Search.{firstOver, over, searchOutcome, sought, soughtOf, touches}
 use Rattle.worst.specs.Outcome.{measured, worstOutcome}
 use Rattle.session.specs.Session.{onward}
 use Rattle.offset.specs.Caller.{after, answer, answers, begun, kept, left, part}
-use Rattle.offset.specs.Offset.{FileMoved, FilesMoved, each, lates-too, loads-too, lookups-too, nexts-too, none, opens-too, rows-too, saves-too, worsts-too}
+use Rattle.offset.specs.Offset.{FileMoved, FilesMoved, each, lates-too, loads-too, lookups-too, nexts-too, none, opens-too, rows-too, saves-too, searches-too, worsts-too}
 use Rattle.offset.specs.ByHand.{ByHand, files, filesMoved}
 
 -- a list whose numbers are tested one by one
@@ -41,7 +42,7 @@ moved-each (suc zero) = record { bytes = bytes-all (1 ∷ []) refl; bytes-too = 
 moved-each (suc (suc i)) = moved-empty i
 
 pub by-hand : ByHand
-unfolding distance larger lesser middle accept cheaper cheapest choice holding holds insert lastEnd limitOver merge mergeAt mergeOf readings runs runsAfter settle settleIn worst broken equal faultAt firstFalse firstFault follows isWhole placeOr ruled rules allOf allZero clauses flat gapsBounded gapsGood laid ranged restZero roomy runsAllowed slot slotRanged slots sound stepsGood within zeros bits bytes reading recordAt records recordsOf saved savedRecord wordAt admitted checked counted fileVerdict found foundOf gapsKept grown isHeld late lateVerdict lookupOutcome nextVerdict traced writeVerdict wrote measured worstOutcome onward after answer answers begun kept left part
+unfolding distance larger lesser middle accept cheaper cheapest choice holding holds insert lastEnd limitOver merge mergeAt mergeOf readings runs runsAfter settle settleIn worst broken equal faultAt firstFalse firstFault follows isWhole placeOr ruled rules allOf allZero clauses flat gapsBounded gapsGood laid ranged restZero roomy runsAllowed slot slotRanged slots sound stepsGood within zeros bits bytes reading recordAt records recordsOf saved savedRecord wordAt admitted checked counted fileVerdict found foundOf gapsKept grown isHeld late lateVerdict lookupOutcome nextVerdict traced writeVerdict wrote firstOver over searchOutcome sought soughtOf touches measured worstOutcome onward after answer answers begun kept left part
 by-hand =
     record {
       near-ground = refl;
@@ -52,8 +53,8 @@ by-hand =
       files-with-offset = refl;
       tallied = refl;
       late-tallied = refl;
-      calls-higher = each (opens-too _ _ _ refl) (each (nexts-too (negsuc 2) refl refl) (each (nexts-too (pos 0) refl refl) (each (nexts-too (pos 50) refl refl) (each (lookups-too _) (each worsts-too (each (rows-too _ _ refl) (each (saves-too _ _ refl) (each (loads-too _ _ _ _ refl) (each (lookups-too _) (each (lookups-too _) (each (nexts-too (pos 50) refl refl) (each worsts-too (each (rows-too _ _ refl) (each (opens-too _ _ _ refl) (each (loads-too _ _ _ _ refl) none)))))))))))))));
-      late-higher = each worsts-too (each (opens-too _ _ _ refl) (each (lates-too 5 (negsuc 2) refl refl) (each (lates-too 5 (pos 50) refl refl) (each (nexts-too (pos 50) refl refl) (each (saves-too _ _ refl) (each (lates-too 3 (pos 50) refl refl) (each (opens-too _ _ _ refl) (each (saves-too _ _ refl) (each (rows-too _ _ refl) (each (saves-too _ _ refl) (each (loads-too _ _ _ _ refl) (each (lookups-too _) (each (loads-too _ _ _ _ refl) (each (lookups-too _) (each (lookups-too _) (each (lates-too 6 (pos 50) refl refl) (each (lates-too 7 (negsuc 2) refl refl) (each (lates-too 8 (negsuc 2) refl refl) (each (saves-too _ _ refl) (each (loads-too _ _ _ _ refl) none))))))))))))))))))));
+      calls-higher = each (opens-too _ _ _ refl) (each (nexts-too (negsuc 2) refl refl) (each (nexts-too (pos 0) refl refl) (each (nexts-too (pos 50) refl refl) (each (lookups-too _) (each (searches-too 1 9 (pos 0)) (each (searches-too 0 9 (pos 50)) (each (searches-too 0 1 (pos 50)) (each worsts-too (each (rows-too _ _ refl) (each (saves-too _ _ refl) (each (loads-too _ _ _ _ refl) (each (lookups-too _) (each (lookups-too _) (each (nexts-too (pos 50) refl refl) (each worsts-too (each (rows-too _ _ refl) (each (opens-too _ _ _ refl) (each (loads-too _ _ _ _ refl) none))))))))))))))))));
+      late-higher = each worsts-too (each (searches-too 0 9 (negsuc 2)) (each (opens-too _ _ _ refl) (each (lates-too 5 (negsuc 2) refl refl) (each (lates-too 5 (pos 50) refl refl) (each (nexts-too (pos 50) refl refl) (each (saves-too _ _ refl) (each (lates-too 3 (pos 50) refl refl) (each (opens-too _ _ _ refl) (each (saves-too _ _ refl) (each (rows-too _ _ refl) (each (searches-too 3 5 (pos 50)) (each (searches-too 4 5 (negsuc 2)) (each (searches-too 4 4 (negsuc 2)) (each (searches-too 9 16777216 (negsuc 2)) (each (saves-too _ _ refl) (each (loads-too _ _ _ _ refl) (each (lookups-too _) (each (loads-too _ _ _ _ refl) (each (lookups-too _) (each (lookups-too _) (each (lates-too 6 (pos 50) refl refl) (each (lates-too 7 (negsuc 2) refl refl) (each (lates-too 8 (negsuc 2) refl refl) (each (saves-too _ _ refl) (each (loads-too _ _ _ _ refl) none)))))))))))))))))))))))));
       no-files = moved-empty;
       files-moved = moved-each;
       far-up = each (nexts-too (negsuc 2147483647) refl refl) (each (lates-too 9 (negsuc 2147483647) refl refl) none);

@@ -15,6 +15,7 @@ use Rattle.rule.specs.declared.Settings.{Settings}
 use Rattle.rule.specs.Bucket.{distance, end, error, larger, lesser, level, middle, neighbours, spread, union}
 use Rattle.rule.specs.Rules.{broken, equal, firstFault, follows, rules}
 use Rattle.rule.specs.Table.{Table, Choice, nothing, pair, accept, cheapest, choice, holding, holds, insert, lastEnd, limit, merge, mergeAt, mergeOf, readings, runs, runsAfter, settle, settleIn, single, worst}
+use Rattle.over.specs.Search.{firstOver, over, touches}
 use Rattle.offset.specs.Offset.{moved, movedAll}
 use Rattle.rule.proofs.Whole.{whole, by-test, distance-is, middle-down, middle-up, one-side, sum}
 
@@ -131,6 +132,12 @@ module _ (d : ℤ) where
   unfolding holding holds movedHeld
   holding-moved tick [] = refl
   holding-moved tick (b ∷ t) = rw (holding-moved tick t) (by-test (holds tick b) (λ h. rw h) (λ h. rw h))
+
+  -- the first bucket over a bar, the bar moved too
+  pub first-over-moved : (first last : ℕ) (bar : ℤ) (i : ℕ) (t : Table) → firstOver first last (bar +ℤ d) i (movedAll d t) ≡ firstOver first last bar i t
+  unfolding firstOver over touches
+  first-over-moved first last bar i [] = refl
+  first-over-moved first last bar i (b ∷ t) = rw (order-moved bar (b .largest), first-over-moved first last bar (suc i) t)
 
   pub worst-moved : (t : Table) → worst (movedAll d t) ≡ worst t
   unfolding worst

@@ -38,11 +38,12 @@ use Rattle.saved.proofs.RoundTrips.{load-sound}
 use Rattle.session.specs.Session.{onward}
 use Rattle.trace.specs.Left.{LeavesSound, LeftBy}
 use Rattle.trace.proofs.Leaving.{late-leaves, next-leaves, open-leaves}
+use Rattle.over.specs.Search.{searchOutcome}
 use Rattle.worst.specs.Outcome.{worstOutcome}
 use Rattle.offset.specs.Caller as caller
 use Rattle.offset.specs.Caller.{Answer, Call, Caller, after, answer, answers, begun, fed, fileAt, idle, kept, left, part}
-use Rattle.offset.specs.Offset.{AllHigher, Alike, FileMoved, FilesMoved, Higher, Offset, each, higher, lates-too, loads-too, lookups-too, movedAll, movedAnswer, movedFound, nexts-too, none as no-more, opens-too, readingsIn, rows-too, saves-too, worsts-too}
-use Rattle.offset.proofs.Moved.{accept-moved, error-moved, first-fault-moved, holding-moved, insert-moved, last-end-moved, length-moved, level-moved, movedHeld, readings-moved, runs-moved, worst-moved}
+use Rattle.offset.specs.Offset.{AllHigher, Alike, FileMoved, FilesMoved, Higher, Offset, each, higher, lates-too, loads-too, lookups-too, movedAll, movedAnswer, movedFound, nexts-too, none as no-more, opens-too, readingsIn, rows-too, saves-too, searches-too, worsts-too}
+use Rattle.offset.proofs.Moved.{accept-moved, error-moved, first-fault-moved, first-over-moved, holding-moved, insert-moved, last-end-moved, length-moved, level-moved, movedHeld, readings-moved, runs-moved, worst-moved}
 
 -- what is saved is bytes
 word-bytes : (n : ℕ) (rest : List ℕ) → AllBytes rest → AllBytes (bytes n ++ rest)
@@ -143,6 +144,11 @@ module _ (d : ℤ) where
         rw (a .fit, h, a .buckets h, holding-moved d tick (tableOf s l))
         (by-test (leb ticks tick) (λ k. rw k refl) (λ k. rw k (found-moved (holding tick (tableOf s l))))))
         (λ h. rw (a .fit, h) refl)
+
+    search-same : (first last : ℕ) (bar : ℤ) → searchOutcome s m first last (bar +ℤ d) ≡ searchOutcome s l first last bar
+    unfolding searchOutcome checked
+    search-same first last bar =
+        by-test (sound s l) (λ h. rw (a .fit, h, a .buckets h, first-over-moved d first last bar 0 (tableOf s l)) refl) (λ h. rw (a .fit, h) refl)
 
     worst-same : worstOutcome s m ≡ worstOutcome s l
     unfolding worstOutcome checked
@@ -276,6 +282,7 @@ module _ (d : ℤ) where
         let s = c .state in
         along fed (s .settings) (c .room) m _ _ (late-moved s (c .room) m (a .twin) tick v) (fed-goes _ (late-leaves s (c .room) tick v (signed-fits v fits))) (late-leaves s m tick (v +ℤ d) (signed-fits (v +ℤ d) fits-too))
     step (lookups-too tick) = (ap caller.shown (lookup-moved (c .state) (c .room) m (a .twin) tick), stays)
+    step (searches-too first last bar) = (ap caller.pointed (search-same (c .state) (c .room) m (a .twin) first last bar), stays)
     step worsts-too = (ap caller.measured (worst-same (c .state) (c .room) m (a .twin)), stays)
     step (rows-too out too long) =
         let n = c .state .used in
@@ -339,6 +346,7 @@ all-higher d (caller.nexts v ∷ xs) f =
 all-higher d (caller.lates tick v ∷ xs) f =
     let p = f v (List·Memᴰ·head refl) in each (lates-too tick v (p .0) (p .1)) (all-higher d xs (λ w m. f w (List·Memᴰ·tail m)))
 all-higher d (caller.lookups tick ∷ xs) f = each (lookups-too tick) (all-higher d xs f)
+all-higher d (caller.searches first last bar ∷ xs) f = each (searches-too first last bar) (all-higher d xs f)
 all-higher d (caller.worsts ∷ xs) f = each worsts-too (all-higher d xs f)
 all-higher d (caller.rows out ∷ xs) f = each (rows-too out out refl) (all-higher d xs f)
 all-higher d (caller.saves out ∷ xs) f = each (saves-too out out refl) (all-higher d xs f)

@@ -11,9 +11,10 @@ use Rattle.rule.specs.declared.State.{State}
 use Rattle.rule.specs.declared.Written.{Written}
 use Rattle.rule.specs.ByHand.{bucket, gappy, inOrder}
 use Rattle.rule.specs.Calls.{accepted, refused}
+use Rattle.over.specs.declared.Sought.{Sought}
 use Rattle.worst.specs.declared.Measured.{Measured}
 use Rattle.offset.specs.Offset.{AllHigher, FilesMoved}
-use Rattle.offset.specs.Caller.{Answer, Call, Caller, after, answers, drawn, filed, idle, lates, loads, lookups, measured, nexts, opens, rows, saves, shown, traced, worsts}
+use Rattle.offset.specs.Caller.{Answer, Call, Caller, after, answers, drawn, filed, idle, lates, loads, lookups, measured, nexts, opens, pointed, rows, saves, searches, shown, traced, worsts}
 
 abbrev pub now : Settings → ℕ → ℕ → ℕ → State
 now g used runs readings = record { settings = g; used = used; runs = runs; readings = readings }
@@ -31,6 +32,9 @@ calls n x y z =
     ∷ nexts y
     ∷ nexts z
     ∷ lookups 1
+    ∷ searches 1 9 y
+    ∷ searches 0 9 z
+    ∷ searches 0 1 z
     ∷ worsts
     ∷ rows (replicate 3 (bucket n n (pos n) (pos n)))
     ∷ saves (replicate 40 n)
@@ -52,6 +56,9 @@ told level least largest last =
     ∷ traced (accepted (now (inOrder 1) 2 1 2))
     ∷ traced (accepted (now (inOrder 1) 2 1 3))
     ∷ shown (Found.Level level 2 least largest)
+    ∷ pointed (Sought.At 0 0)
+    ∷ pointed (Sought.At 1 2)
+    ∷ pointed Sought.Nowhere
     ∷ measured (Measured.Error 2)
     ∷ drawn (Written.Buckets 2) (bucket 0 2 least largest ∷ bucket 2 1 last last ∷ [])
     ∷ filed (Written.Buckets 2)
@@ -71,6 +78,7 @@ told level least largest last =
 abbrev pub lateCalls : ℕ → ℤ → ℤ → List Call
 lateCalls n x y =
     worsts
+    ∷ searches 0 9 x
     ∷ opens (gappy 2 3) (replicate 32 (pos n))
     ∷ lates 5 x
     ∷ lates 5 y
@@ -80,6 +88,10 @@ lateCalls n x y =
     ∷ opens (inOrder 1) []
     ∷ saves []
     ∷ rows []
+    ∷ searches 3 5 y
+    ∷ searches 4 5 x
+    ∷ searches 4 4 x
+    ∷ searches 9 16777216 x
     ∷ saves (replicate 40 n)
     ∷ loads (gappy 1 2) 0 []
     ∷ lookups 5
@@ -97,6 +109,7 @@ lateCalls n x y =
 abbrev pub toldLate : ℤ → List Answer
 toldLate x =
     measured (Measured.Refused Refusal.Unsound)
+    ∷ pointed (Sought.Refused Refusal.Unsound)
     ∷ traced (accepted (now (gappy 2 3) 0 0 0))
     ∷ traced (accepted (now (gappy 2 3) 1 1 1))
     ∷ traced (refused Refusal.Taken)
@@ -106,6 +119,10 @@ toldLate x =
     ∷ traced (refused Refusal.Room)
     ∷ filed (Written.Refused Refusal.Short)
     ∷ drawn (Written.Refused Refusal.Short) []
+    ∷ pointed (Sought.At 0 3)
+    ∷ pointed (Sought.At 1 5)
+    ∷ pointed Sought.Nowhere
+    ∷ pointed (Sought.Refused Refusal.Tick)
     ∷ filed (Written.Buckets 2)
     ∷ traced (refused Refusal.Room)
     ∷ shown (Found.Level x 0 x x)

@@ -10,6 +10,8 @@ use Rattle.rule.specs.declared.State.{State}
 use Rattle.rule.specs.declared.Tally.{Tally}
 use Rattle.rule.specs.declared.Written.{Written}
 use Rattle.rule.specs.Calls.{Verdict, refused, accepted, counted, lateOutcome, loaded, lookupOutcome, nextOutcome, opened, rowOutcome, saveOutcome}
+use Rattle.over.specs.declared.Sought.{Sought}
+use Rattle.over.specs.Search.{searchOutcome}
 use Rattle.session.specs.Session.{onward}
 use Rattle.worst.specs.declared.Measured.{Measured}
 use Rattle.worst.specs.Outcome.{worstOutcome}
@@ -25,21 +27,23 @@ pub record Caller : Type 0 where
 abbrev pub idle : State → Tally → List (List ℕ) → Caller
 idle s t files = record { state = s; room = []; tally = t; files = files }
 
--- a call, with what is named and lent at it: open and load get a room, row and save an output, and load the place of a file
+-- a call, with what is named and lent at it: a search gets the first and the last tick of a range and a bar, open and load get a room, row and save an output, and load the place of a file
 pub data Call : Type 0 where
   opens : Settings → List ℤ → Call
   nexts : ℤ → Call
   lates : ℕ → ℤ → Call
   lookups : ℕ → Call
+  searches : ℕ → ℕ → ℤ → Call
   worsts : Call
   rows : List Bucket → Call
   saves : List ℕ → Call
   loads : Settings → ℕ → List ℤ → Call
 
--- of open, next, late and load; of lookup; of the worst error; of row, with the buckets that it wrote; of save
+-- of open, next, late and load; of lookup; of the search; of the worst error; of row, with the buckets that it wrote; of save
 pub data Answer : Type 0 where
   traced : Verdict State → Answer
   shown : Found → Answer
+  pointed : Sought → Answer
   measured : Measured → Answer
   drawn : Written → List Bucket → Answer
   filed : Written → Answer
@@ -58,6 +62,7 @@ answer c (opens g l) = traced (opened g l .0)
 answer c (nexts v) = traced (nextOutcome (c .state) (c .room) v .0)
 answer c (lates tick v) = traced (lateOutcome (c .state) (c .room) tick v .0)
 answer c (lookups tick) = shown (lookupOutcome (c .state) (c .room) tick)
+answer c (searches first last bar) = pointed (searchOutcome (c .state) (c .room) first last bar)
 answer c worsts = measured (worstOutcome (c .state) (c .room))
 answer c (rows out) = let o = rowOutcome (c .state) (c .room) out in drawn (o .0) (part 1 (o .0) (o .1))
 answer c (saves out) = filed (saveOutcome (c .state) (c .room) out .0)
@@ -83,6 +88,7 @@ left c (opens g l) = let o = opened g l in begun c (o .0) (o .1)
 left c (nexts v) = fed c (nextOutcome (c .state) (c .room) v)
 left c (lates tick v) = fed c (lateOutcome (c .state) (c .room) tick v)
 left c (lookups tick) = c
+left c (searches first last bar) = c
 left c worsts = c
 left c (rows out) = c
 left c (saves out) = let o = saveOutcome (c .state) (c .room) out in kept c (o .0) (o .1)

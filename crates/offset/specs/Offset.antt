@@ -16,7 +16,7 @@ use Rattle.rule.specs.Bytes.{recordsOf}
 use Rattle.rule.specs.Room.{signed, sound, tableOf}
 use Rattle.rule.specs.Table.{Table, worst}
 use Rattle.saved.specs.Bytes.{AllBytes}
-use Rattle.offset.specs.Caller.{Answer, Call, Caller, after, answers, drawn, filed, idle, lates, loads, lookups, measured, nexts, opens, rows, saves, shown, traced, worsts}
+use Rattle.offset.specs.Caller.{Answer, Call, Caller, after, answers, drawn, filed, idle, lates, loads, lookups, measured, nexts, opens, pointed, rows, saves, searches, shown, traced, worsts}
 
 -- ---- d higher, d being any whole number
 
@@ -32,10 +32,11 @@ unfoldable pub movedFound : ℤ → Found → Found
 movedFound d (Found.Level level error least largest) = Found.Level (level +ℤ d) error (least +ℤ d) (largest +ℤ d)
 movedFound d (Found.Refused r) = Found.Refused r
 
--- states, refusals with number and place, errors and counts are the same
+-- states, refusals with number and place, the index and start of a bucket that is over, errors and counts are the same
 unfoldable pub movedAnswer : ℤ → Answer → Answer
 movedAnswer d (traced v) = traced v
 movedAnswer d (shown f) = shown (movedFound d f)
+movedAnswer d (pointed s) = pointed s
 movedAnswer d (measured e) = measured e
 movedAnswer d (drawn w t) = drawn w (movedAll d t)
 movedAnswer d (filed w) = filed w
@@ -53,12 +54,13 @@ pub record FileMoved (d : ℤ) (f g : List ℕ) : Type 0 where
 abbrev pub FilesMoved : ℤ → List (List ℕ) → List (List ℕ) → Type 0
 FilesMoved d fs gs = (i : ℕ) → FileMoved d (getD fs i []) (getD gs i [])
 
--- the same call by a second caller, whose reading is d more and fits 32 bits as the first one's does; each lends a room or an output of its own, as long as the other's
+-- the same call by a second caller, whose reading is d more and fits 32 bits as the first one's does, and whose bar is d more; each lends a room or an output of its own, as long as the other's
 pub data Higher (d : ℤ) : Call → Call → Type 0 where
   opens-too : (g : Settings) (l m : List ℤ) → length m ≡ length l → Higher d (opens g l) (opens g m)
   nexts-too : (v : ℤ) → signed v ≡ true → signed (v +ℤ d) ≡ true → Higher d (nexts v) (nexts (v +ℤ d))
   lates-too : (tick : ℕ) (v : ℤ) → signed v ≡ true → signed (v +ℤ d) ≡ true → Higher d (lates tick v) (lates tick (v +ℤ d))
   lookups-too : (tick : ℕ) → Higher d (lookups tick) (lookups tick)
+  searches-too : (first last : ℕ) (bar : ℤ) → Higher d (searches first last bar) (searches first last (bar +ℤ d))
   worsts-too : Higher d worsts worsts
   rows-too : (out too : List Bucket) → length too ≡ length out → Higher d (rows out) (rows too)
   saves-too : (out too : List ℕ) → length too ≡ length out → Higher d (saves out) (saves too)
@@ -69,12 +71,13 @@ pub data AllHigher (d : ℤ) : List Call → List Call → Type 0 where
   none : AllHigher d [] []
   each : {x y : Call} {xs ys : List Call} → Higher d x y → AllHigher d xs ys → AllHigher d (x ∷ xs) (y ∷ ys)
 
--- the same call, its reading d more, in the same room or output
+-- the same call, its reading or its bar d more, in the same room or output
 unfoldable pub higher : ℤ → Call → Call
 higher d (opens g l) = opens g l
 higher d (nexts v) = nexts (v +ℤ d)
 higher d (lates tick v) = lates tick (v +ℤ d)
 higher d (lookups tick) = lookups tick
+higher d (searches first last bar) = searches first last (bar +ℤ d)
 higher d worsts = worsts
 higher d (rows out) = rows out
 higher d (saves out) = saves out
@@ -87,6 +90,7 @@ readingsIn (opens g l ∷ xs) = readingsIn xs
 readingsIn (nexts v ∷ xs) = v ∷ readingsIn xs
 readingsIn (lates tick v ∷ xs) = v ∷ readingsIn xs
 readingsIn (lookups tick ∷ xs) = readingsIn xs
+readingsIn (searches first last bar ∷ xs) = readingsIn xs
 readingsIn (worsts ∷ xs) = readingsIn xs
 readingsIn (rows out ∷ xs) = readingsIn xs
 readingsIn (saves out ∷ xs) = readingsIn xs

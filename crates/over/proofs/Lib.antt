@@ -1,3 +1,3 @@
--- The promise of the search holds, and the searches worked by hand are what the definitions say.
-pub mod Searching
+-- The searches worked by hand are what the definitions say, and the promise of the search holds.
 pub mod ByHand
+pub mod Searching

@@ -15,6 +15,7 @@
 //! | `late` | `tick value` | a late reading |
 //! | `nexttold`, `latetold` | as `next`, `late` | the same with the tally lent |
 //! | `lookup` | `tick` | |
+//! | `over` | `first last bar` | the first bucket over the bar among those of a range of ticks |
 //! | `worst` | | the worst error |
 //! | `row` | `places` | so many buckets of the row are lent |
 //! | `save` | `bytes` | so many bytes of the output are lent |
@@ -39,9 +40,10 @@
 //!
 //! The words from `open` to `show` write one line each, of the word and numbers one space apart. First what is answered, whole: a refusal, 0 where
 //! the call was accepted, and its place; then the six fields of a state (of a refused reading those that were given, of a refused open or load
-//! zeros), or a lookup's level, error, least and largest, or the worst error, or how many buckets were written, each 0 where refused. Then
-//! what was lent: ` room`, a checksum of the lent numbers; of a told reading ` tally` and its three counts; of a row, a save or a load ` row`,
-//! ` output` or ` file` and the checksum of what was lent. `level` and `error` write the number alone; `show` the state at hand and every lent number.
+//! zeros), or a lookup's level, error, least and largest, or 1 with the index and the start of the bucket that is over, three zeros where none is,
+//! or the worst error, or how many buckets were written, each 0 where refused. Then what was lent: ` room`, a checksum of the lent numbers; of a
+//! told reading ` tally` and its three counts; of a row, a save or a load ` row`, ` output` or ` file` and the checksum of what was lent. `level` and
+//! `error` write the number alone; `show` the state at hand and every lent number.
 //!
 //! A checksum is sixteen hex digits. It begins with how many numbers there are; for each number, by its 64 bits, exclusive or with it, then
 //! exclusive or with itself moved 13 up, then 7 down, then 17 up, then 11,400,714,819,323,198,485 is added, all modulo 2^64. Bytes go as one number
@@ -82,6 +84,7 @@ named! { Word:
     NextTold "nexttold",
     LateTold "latetold",
     Lookup "lookup",
+    Over "over",
     Worst "worst",
     Row "row",
     Save "save",
@@ -125,6 +128,9 @@ named! { Name:
     Largest "largest",
     Tick "tick",
     Value "value",
+    First "first",
+    Last "last",
+    Bar "bar",
 }
 
 impl Word {
@@ -136,7 +142,7 @@ impl Word {
 
 impl Name {
     fn is_signed(self) -> bool {
-        matches!(self, Name::Least | Name::Largest | Name::Value)
+        matches!(self, Name::Least | Name::Largest | Name::Value | Name::Bar)
     }
 }
 

@@ -3,6 +3,7 @@
 use crate::calls::{Tally, LAST_CALL_REFUSAL, RECORD, RECORD_BYTES, UNSOUND};
 use crate::clauses::{self, CLAUSES};
 use crate::command::{Command, Name, Word};
+use crate::searches::{Search, SORTS};
 use crate::session::{Answer, Session};
 use std::collections::BTreeMap;
 
@@ -14,6 +15,8 @@ const MOST_NUMBERS: usize = 3_076;
 const MOST_RECORDS: usize = 768;
 /// What a clause of soundness must be met alone, at the least.
 const ALONE: u64 = 200;
+/// So many searches of each sort, at the least.
+const OF_EACH_SORT: u64 = 100;
 
 #[derive(Default)]
 pub struct Counts {
@@ -54,6 +57,7 @@ impl Counts {
             }
             Word::NextTold | Word::LateTold => self.told(&before, &session.tally),
             Word::Lookup => self.looked_up(answer),
+            Word::Over => self.searched(session, command, answer),
             _ => {}
         }
         if session.lent > MOST_NUMBERS {
@@ -102,6 +106,15 @@ impl Counts {
     fn looked_up(&mut self, answer: &Answer) {
         if let Answer::Found(Ok(held)) = answer {
             self.sum("lookup", held.least, held.largest);
+        }
+    }
+
+    fn searched(&mut self, session: &Session, command: &Command, answer: &Answer) {
+        if let Answer::Over(answer) = answer {
+            let search = Search::new(session, command, *answer);
+            for (name, _) in SORTS.iter().filter(|(_, is)| is(&search)) {
+                self.count(name);
+            }
         }
     }
 
@@ -159,13 +172,14 @@ fn answer_name(word: Word, number: u32) -> String {
 }
 
 /// The refusals that each call can give.
-pub const REFUSALS: [(Word, &[u32]); 12] = [
+pub const REFUSALS: [(Word, &[u32]); 13] = [
     (Word::Open, &[1, 2, 3]),
     (Word::Next, &[4, 5, 6]),
     (Word::Late, &[4, 5, 6, 9, 11]),
     (Word::NextTold, &[4, 5, 6]),
     (Word::LateTold, &[4, 5, 6, 9, 11]),
     (Word::Lookup, &[4, 6, 12]),
+    (Word::Over, &[4, 6]),
     (Word::Worst, &[4]),
     (Word::Row, &[4, 13]),
     (Word::Save, &[4, 13]),
@@ -185,6 +199,9 @@ pub fn wanted() -> Met {
     }
     for clause in CLAUSES {
         wanted.insert(format!("alone broken: {clause}"), ALONE);
+    }
+    for (sort, _) in SORTS {
+        wanted.insert(sort.to_string(), OF_EACH_SORT);
     }
     for word in [Word::Open, Word::Load] {
         for name in [Name::Kind, Name::Steps, Name::Gaps] {

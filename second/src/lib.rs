@@ -15,6 +15,7 @@ pub mod rule;
 pub mod sample;
 pub mod script;
 pub mod scripts;
+pub mod searches;
 pub mod session;
 pub mod shapes;
 pub mod told;

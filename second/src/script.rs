@@ -107,6 +107,15 @@ impl Script {
         }
     }
 
+    pub fn over(&mut self, first: u32, last: u32, bar: i32) {
+        let named = [
+            (Name::First, u64::from(first)),
+            (Name::Last, u64::from(last)),
+            (Name::Bar, wide(bar)),
+        ];
+        self.give(Word::Over, &named);
+    }
+
     pub fn worst(&mut self) {
         self.give(Word::Worst, &[]);
     }

@@ -22,6 +22,7 @@ const NO_RECORD: Record = Record {
 pub enum Answer {
     State(Result<State, Refusal>),
     Found(Result<Held, Refusal>),
+    Over(Result<Option<(u64, u64)>, Refusal>),
     Worst(Result<i64, Refusal>),
     Wrote(Result<u64, Refusal>),
     Number(i64),
@@ -34,6 +35,7 @@ impl Answer {
         match self {
             Answer::State(answer) => answer.err(),
             Answer::Found(answer) => answer.err(),
+            Answer::Over(answer) => answer.err(),
             Answer::Worst(answer) => answer.err(),
             Answer::Wrote(answer) => answer.err(),
             Answer::Number(_) | Answer::Shown | Answer::Nothing => None,
@@ -97,6 +99,18 @@ impl Session {
         [self.kind, steps, gaps, used, runs, readings]
     }
 
+    /// Of a sound trace, whose slots in use are all there.
+    pub fn buckets(&self) -> Vec<Bucket> {
+        let slots = self.room[..self.state.used as usize * SLOT].chunks_exact(SLOT);
+        let bucket = |slot: &[i64]| Bucket {
+            start: slot[0] as u64,
+            count: slot[1] as u64,
+            least: slot[2],
+            largest: slot[3],
+        };
+        slots.map(bucket).collect()
+    }
+
     /// As the command gives it, or as it is at hand.
     pub fn setting(&self, command: &Command, name: Name) -> u64 {
         let fields = self.fields();
@@ -112,6 +126,12 @@ impl Session {
             Word::Lookup => {
                 let tick = command.number(Name::Tick) as u32;
                 Answer::Found(calls::lookup(self.state, self.lent_numbers(), tick))
+            }
+            Word::Over => {
+                let [first, last] = [Name::First, Name::Last].map(|end| command.number(end) as u32);
+                let bar = command.number(Name::Bar) as i32;
+                let room = self.lent_numbers();
+                Answer::Over(calls::first_over(self.state, room, first, last, bar))
             }
             Word::Worst => Answer::Worst(calls::worst(self.state, self.lent_numbers())),
             Word::Row => {

@@ -81,6 +81,11 @@ fn answered(session: &Session, command: &Command, answer: &Answer, text: &mut Ve
                 signed(text, number);
             }
         }
+        Answer::Over(over) => {
+            let hit = over.unwrap_or(None);
+            let (index, start) = hit.unwrap_or((0, 0));
+            numbers(text, &[u64::from(hit.is_some()), index, start]);
+        }
         Answer::Worst(worst) => signed(text, worst.unwrap_or(0)),
         Answer::Wrote(buckets) => numbers(text, &[buckets.unwrap_or(0)]),
         Answer::Number(_) | Answer::Shown | Answer::Nothing => {}

@@ -89,7 +89,7 @@ impl Script {
     }
 
     /// A table that the settings allow, or the greatest B where they say more.
-    fn table(&mut self) -> Vec<Bucket> {
+    pub(super) fn table(&mut self) -> Vec<Bucket> {
         let state = self.session.state;
         let steps = state.steps.min(MOST_STEPS);
         let most = rule::limit(state.kind, steps, 0) as usize;
@@ -108,7 +108,7 @@ impl Script {
     }
 
     fn act(&mut self) {
-        match self.random.below(22) {
+        match self.random.below(23) {
             0..=6 => self.reading(),
             7 => self.refused_reading(),
             8 => self.about_lookup(),
@@ -119,6 +119,7 @@ impl Script {
             16..=18 => self.any_load(),
             19 => self.worst(),
             20 => self.any_bucket(),
+            21 => self.about_over(),
             _ if self.chance(8) => self.last_ticks(),
             _ => self.about_lookup(),
         }
@@ -178,35 +179,59 @@ impl Script {
     }
 
     fn about_lookup(&mut self) {
-        let tick = match self.ticks() {
+        let tick = self.about_tick();
+        self.lookup(tick);
+    }
+
+    /// The range is seldom empty; the bar is near the largest reading of a slot in use, or any.
+    fn about_over(&mut self) {
+        let mut ends = [(); 2].map(|()| self.about_tick());
+        if !self.chance(4) {
+            ends.sort();
+        }
+        let bar = match self.slot_in_use() {
+            Some(slot) if !self.chance(4) => {
+                let largest = self.session.room[slot * SLOT + 3] as i32;
+                largest.wrapping_add(self.random.choice(&[-1, 0, 0, 1]))
+            }
+            _ => self.value(),
+        };
+        self.over(ends[0], ends[1], bar);
+    }
+
+    fn about_tick(&mut self) -> u32 {
+        match self.ticks() {
             Some((start, end)) if !self.chance(4) => {
                 let about = [start.wrapping_sub(1), start, end.wrapping_sub(1), end];
                 self.random.choice(&about)
             }
             _ if self.chance(2) => self.random.below(60) as u32,
             _ => self.far_tick(),
-        };
-        self.lookup(tick);
+        }
+    }
+
+    fn slot_in_use(&mut self) -> Option<usize> {
+        match self.used() {
+            0 => None,
+            used => Some(self.random.below(used as u64) as usize),
+        }
     }
 
     /// Where a slot in use begins and ends, if there is one; the numbers may be changed ones.
     fn ticks(&mut self) -> Option<(u32, u32)> {
-        let used = self.used();
-        if used == 0 {
-            return None;
-        }
-        let slot = self.random.below(used as u64) as usize;
+        let slot = self.slot_in_use()?;
         let [start, count] = [0, 1].map(|field| self.session.room[slot * SLOT + field]);
         Some((start as u32, start.wrapping_add(count) as u32))
     }
 
     /// Any call that asks whether the trace is sound.
     fn call(&mut self) {
-        match self.random.below(7) {
+        match self.random.below(8) {
             0 => self.about_lookup(),
             1 => self.any_row(),
             2 => self.any_save(),
             3 => self.worst(),
+            4 => self.about_over(),
             _ => self.reading(),
         }
     }

@@ -7,6 +7,7 @@ pub mod files;
 pub mod late;
 pub mod long;
 pub mod next;
+pub mod search;
 pub mod sessions;
 pub mod settings;
 pub mod short;
@@ -16,9 +17,9 @@ use crate::arrivals::ARRIVALS;
 use crate::script::Script;
 
 /// The scripts that are one and the same each time; besides them there is one by chance for each seed.
-pub const NAMES: [&str; 10] = [
-    "arrivals", "buckets", "files", "late", "long", "next", "sessions", "settings", "short",
-    "unsound",
+pub const NAMES: [&str; 11] = [
+    "arrivals", "buckets", "files", "late", "long", "next", "search", "sessions", "settings",
+    "short", "unsound",
 ];
 
 /// Nothing for another name.
@@ -30,6 +31,7 @@ pub fn of_name(name: &str) -> Option<Script> {
         "late" => late::write,
         "long" => long::write,
         "next" => next::write,
+        "search" => search::write,
         "sessions" => sessions::write,
         "settings" => settings::write,
         "short" => short::write,

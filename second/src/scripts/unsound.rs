@@ -4,11 +4,11 @@ use crate::calls::{self, MOST_GAPS, MOST_STEPS, SLOT};
 use crate::clauses::{self, CLAUSES};
 use crate::command::{Name, Word};
 use crate::made;
-use crate::rule::{self, Kind};
+use crate::rule::{self, Kind, TICKS};
 use crate::script::Script;
 use crate::session::NUMBERS;
 
-/// So many states and rooms for each clause, and eight calls of each.
+/// So many states and rooms for each clause, and nine calls of each.
 const OF_EACH: usize = 60;
 const TRIES: usize = 10_000;
 
@@ -128,6 +128,8 @@ impl Script {
         self.read(Word::NextTold, 0, 1);
         self.read(Word::LateTold, 40, 1);
         self.lookup(0);
+        // The first bucket would be a hit, if it were answered before all is looked at.
+        self.over(0, TICKS as u32 - 1, i32::MIN);
         self.worst();
         self.row(used);
         self.save(16 * used);

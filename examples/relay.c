@@ -1,4 +1,4 @@
-/* Opens a trace, feeds it, looks a tick up, saves it, loads it into another room and prints its row. Built and run by tools/example. */
+/* Opens a trace, feeds it, looks a tick up, asks where it first goes over, saves it, loads it into another room and prints its row. Built and run by tools/example. */
 #include "ndezulangi.h"
 #include <inttypes.h>
 #include <stdio.h>
@@ -36,6 +36,15 @@ int main(void)
     if (refused("lookup", drop.refusal))
         return 1;
     printf("tick 5: level %" PRId32 ", error %" PRIu32 ", %" PRId32 " to %" PRId32 "\n", drop.level, drop.error, drop.least, drop.largest);
+
+    /* After the drop, where is the coil first back at 12 V or above? */
+    ndz_hit back = ndz_first_over(state, room, NUMBERS, 5, NDZ_LAST_TICK, 12000);
+    if (refused("first over", back.refusal))
+        return 1;
+    if (back.found)
+        printf("from tick 5 on, 12000 or above: first in bucket %" PRIu64 ", from tick %" PRIu32 "\n", back.index, back.start);
+    else
+        printf("from tick 5 on, 12000 or above: nowhere\n");
 
     /* A reading with a tick does not fit a trace in order: the state at hand stays. */
     refused("late", ndz_take(&state, ndz_late(state, room, NUMBERS, 99, 0)));

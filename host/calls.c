@@ -21,10 +21,10 @@ static size_t numbers_lent, bytes_lent;
 
 /* ---- the numbers of the command at hand */
 
-enum name { KIND, STEPS, GAPS, USED, RUNS, READINGS, ACCEPTED, REFUSED, MERGES, LENT, PLACE, LENGTH, AT, FROM, TO, START, COUNT, LEAST, LARGEST, TICK, VALUE, NAMES };
+enum name { KIND, STEPS, GAPS, USED, RUNS, READINGS, ACCEPTED, REFUSED, MERGES, LENT, PLACE, LENGTH, AT, FROM, TO, START, COUNT, LEAST, LARGEST, TICK, VALUE, FIRST, LAST, BAR, NAMES };
 
 static const char *const names[NAMES] = {"kind", "steps", "gaps", "used", "runs", "readings", "accepted", "refused", "merges", "numbers", "places",
-    "bytes", "at", "from", "to", "start", "count", "least", "largest", "tick", "value"};
+    "bytes", "at", "from", "to", "start", "count", "least", "largest", "tick", "value", "first", "last", "bar"};
 
 static uint64_t number[NAMES];
 
@@ -218,6 +218,18 @@ static void obey_lookup(void)
     letter('\n');
 }
 
+static void obey_over(void)
+{
+    ndz_hit hit = ndz_first_over(state, lend_const_room(), numbers_lent, (uint32_t)number[FIRST], (uint32_t)number[LAST], (int32_t)number[BAR]);
+    take_back(room_part, room);
+    refused(hit.refusal, hit.place);
+    unsigned_number(hit.found);
+    unsigned_number(hit.index);
+    unsigned_number(hit.start);
+    show_room();
+    letter('\n');
+}
+
 static void wrote(ndz_written answer)
 {
     take_back(room_part, room);
@@ -401,6 +413,7 @@ static const struct {
     {"save", obey_save},
     {"blank", obey_blank},
     {"lookup", obey_lookup},
+    {"over", obey_over},
     {"open", obey_open},
     {"row", obey_row},
     {"state", obey_state},

@@ -36,7 +36,7 @@ extern "C" {
 #endif
 
 #define NDZ_VERSION_MAJOR 0
-#define NDZ_VERSION_MINOR 2
+#define NDZ_VERSION_MINOR 3
 
 /* Kinds. Any other number than 0 is taken as late, and an accepted call hands it back as 1. */
 #define NDZ_IN_ORDER 0 /* the next reading takes the next tick, from 0 */
@@ -121,6 +121,16 @@ typedef struct {
     int32_t largest;
 } ndz_found;
 
+/* Where a trace is first over a bar: `found` is 1 where a bucket is over, then its index from 0 and its start tick. Zeros
+ * where there is none, and where refused. */
+typedef struct {
+    uint32_t refusal;
+    uint64_t place;
+    uint32_t found;
+    uint64_t index;
+    uint32_t start;
+} ndz_hit;
+
 /* How many buckets were written; 0 where refused. */
 typedef struct {
     uint32_t refusal;
@@ -154,6 +164,12 @@ ndz_answer ndz_late_tallied(ndz_state state, int64_t *room, size_t numbers, uint
 /* The step that holds a tick. Writes nothing.
  * Refuses: NDZ_UNSOUND, NDZ_TICK, NDZ_ABSENT. */
 ndz_found ndz_lookup(ndz_state state, const int64_t *room, size_t numbers, uint32_t tick);
+
+/* The first bucket that holds a tick from `first` to `last`, both included, and whose largest reading is at or above `bar`.
+ * A bucket partly in the range counts with its whole largest reading; a range with `first` above `last` has none. The index
+ * counts the buckets of the trace from 0, as ndz_row writes them, not those of the range. Writes nothing.
+ * Refuses: NDZ_UNSOUND, NDZ_TICK (either end is above NDZ_LAST_TICK, of an empty range too). */
+ndz_hit ndz_first_over(ndz_state state, const int64_t *room, size_t numbers, uint32_t first, uint32_t last, int32_t bar);
 
 /* The greatest error of a bucket, 0 for an empty trace. Writes nothing.
  * Refuses: NDZ_UNSOUND. */

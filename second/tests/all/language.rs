@@ -86,6 +86,49 @@ fn readings_and_lookups_are_told_whole() {
 }
 
 #[test]
+fn searches_are_told_whole() {
+    let room = checksum(&H2_ROOM);
+    let told = told_after_h2(&[
+        "over first=1 last=3 bar=5",
+        "over last=2 bar=5",
+        "over last=3 bar=-1",
+        "over first=3 last=2",
+        "over first=16777216 last=3",
+        // Of each number the lowest 32 bits.
+        "over first=4294967299 last=-4294967293 bar=4294967305",
+        "over last=3 bar=2147483648",
+        "state readings=5",
+        "over last=16777216 bar=5",
+    ]);
+    let answers = [
+        "0 0 1 1 3",
+        "0 0 0 0 0",
+        "0 0 1 0 0",
+        "0 0 0 0 0",
+        "6 0 0 0 0",
+        "0 0 1 1 3",
+        "0 0 1 0 0",
+        "4 0 0 0 0",
+    ];
+    assert_eq!(
+        told,
+        answers.map(|answer| format!("over {answer} room {room}"))
+    );
+}
+
+#[test]
+fn a_bar_is_written_with_its_sign() {
+    let named = [
+        (Name::Bar, i32::MIN as i64 as u64),
+        (Name::Last, 9),
+        (Name::First, 3),
+    ];
+    let mut text = String::new();
+    Command::new(Word::Over, &named).write_line(&mut text);
+    assert_eq!(text, "over first=3 last=9 bar=-2147483648\n");
+}
+
+#[test]
 fn rows_and_saves_are_told_with_what_they_are_lent() {
     let room = checksum(&H2_ROOM);
     let row = [0, 3, 1, 4, 3, 1, 9, 9];

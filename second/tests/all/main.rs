@@ -7,6 +7,7 @@ mod hand;
 mod language;
 mod lines;
 mod offset;
+mod over;
 mod refusals;
 mod round_trips;
 mod script;

@@ -1,4 +1,5 @@
-//! One number added to all readings: the same answers, every level, least and largest moved by that number, the errors as they were.
+//! One number added to all readings: the same answers, every level, least and largest moved by that number, the errors as they were; and the same first
+//! bucket over a bar that is moved too.
 
 use crate::support::Trace;
 use second::calls::{self, Held};
@@ -40,7 +41,7 @@ fn an_offset_moves_every_level() {
     let mut random = Random::new(41);
     // Odd sums that are below zero in one trace and above in the other: cut toward zero, their levels would be one off.
     let mut moved_across = 0;
-    let mut refused = 0;
+    let [mut refused, mut hits] = [0; 2];
     for number in 0..4_000 {
         let offset = match number % 4 {
             0 => 1_001,
@@ -70,6 +71,17 @@ fn an_offset_moves_every_level() {
                 ..held
             });
             assert_eq!(calls::lookup(other.state, &other.room, asked), expected);
+            let ends = [(); 2].map(|()| random.below(42) as u32);
+            let bar = match random.below(3) {
+                0 => fitting_value(&mut random, offset),
+                _ => held.map_or(value, |held| held.largest as i32),
+            };
+            let raised_bar = (i64::from(bar) + offset) as i32;
+            let hit = calls::first_over(trace.state, &trace.room, ends[0], ends[1], bar);
+            let moved_hit =
+                calls::first_over(other.state, &other.room, ends[0], ends[1], raised_bar);
+            assert_eq!(moved_hit, hit);
+            hits += u64::from(hit.is_ok_and(|hit| hit.is_some()));
             match random.below(16) {
                 0 => trace = trace.reloaded(),
                 1 => other = other.reloaded(),
@@ -92,4 +104,5 @@ fn an_offset_moves_every_level() {
         "{moved_across} odd sums move across zero"
     );
     assert!(refused > 5_000, "{refused} readings are refused");
+    assert!(hits > 5_000, "{hits} searches have a hit");
 }

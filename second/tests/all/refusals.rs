@@ -2,24 +2,13 @@
 
 use crate::sound::is_sound;
 use crate::support::{
-    marked_room, random_trace, random_value, Trace, MARK, MARK_BYTE, MARK_RECORD,
+    bytes_of, loaded, random_trace, random_value, Trace, MARK, MARK_BYTE, MARK_RECORD,
 };
 use second::calls::{self, *};
 use second::random::Random;
 use second::rule::{Kind, TICKS};
 
 const FULL: &[(u32, u32, i32, i32)] = &[(0, TICKS as u32, 0, 5)];
-
-fn bytes_of(records: &[(u32, u32, i32, i32)]) -> Vec<u8> {
-    let mut bytes = Vec::new();
-    for &(start, count, least, largest) in records {
-        bytes.extend(start.to_le_bytes());
-        bytes.extend(count.to_le_bytes());
-        bytes.extend(least.to_le_bytes());
-        bytes.extend(largest.to_le_bytes());
-    }
-    bytes
-}
 
 fn load_answer(kind: Kind, steps: u64, gaps: u64, bytes: &[u8]) -> Result<State, Refusal> {
     let mut room = vec![MARK; 769 * SLOT];
@@ -28,16 +17,6 @@ fn load_answer(kind: Kind, steps: u64, gaps: u64, bytes: &[u8]) -> Result<State,
         assert!(room.iter().all(|&number| number == MARK));
     }
     answer
-}
-
-fn loaded(kind: Kind, steps: u64, gaps: u64, records: &[(u32, u32, i32, i32)]) -> Trace {
-    let mut room = marked_room(kind, steps, gaps);
-    let state = calls::load(kind, steps, gaps, &bytes_of(records), &mut room).unwrap();
-    Trace {
-        state,
-        room,
-        tally: Tally::default(),
-    }
 }
 
 #[test]
@@ -191,6 +170,30 @@ fn lookup_row_and_save_refuse_in_order() {
         assert_eq!(answer, Err(Refusal::of(refusal)));
         assert_eq!(bytes, [MARK_BYTE; 31]);
     }
+}
+
+#[test]
+fn a_search_refuses_4_and_then_6() {
+    let trace = Trace::late_of(1, 2, &[(0, 1), (5, 2)]);
+    let mut unsound = trace.state;
+    unsound.runs = 1;
+    let asked = |state, first, last| calls::first_over(state, &trace.room, first, last, 1);
+    let beyond = TICKS as u32;
+    for (first, last) in [
+        (beyond, 0),
+        (0, beyond),
+        (beyond, beyond),
+        (u32::MAX, beyond),
+        (beyond, u32::MAX),
+        (beyond, beyond - 1),
+        (u32::MAX, 0),
+    ] {
+        assert_eq!(asked(unsound, first, last), Err(Refusal::of(UNSOUND)));
+        assert_eq!(asked(trace.state, first, last), Err(Refusal::of(TICK)));
+    }
+    assert_eq!(asked(unsound, 0, beyond - 1), Err(Refusal::of(UNSOUND)));
+    assert_eq!(asked(trace.state, 0, beyond - 1), Ok(Some((0, 0))));
+    assert_eq!(asked(trace.state, beyond - 1, 0), Ok(None));
 }
 
 #[test]
@@ -350,6 +353,17 @@ fn try_every_call(state: State, room: &[i64], random: &mut Random) -> bool {
         None
     };
     let answer = calls::lookup(state, room, tick);
+    assert_eq!(answer.err(), expected.map(Refusal::of));
+
+    let last = random_size(random) as u32;
+    let expected = if !sound {
+        Some(UNSOUND)
+    } else if u64::from(tick.max(last)) >= TICKS {
+        Some(TICK)
+    } else {
+        None
+    };
+    let answer = calls::first_over(state, room, tick, last, value);
     assert_eq!(answer.err(), expected.map(Refusal::of));
 
     let length = random.below(10) as usize;

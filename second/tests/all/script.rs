@@ -6,6 +6,7 @@ use second::clauses::{self, CLAUSES};
 use second::command::{Command, Word};
 use second::counts::{self, REFUSALS};
 use second::scripts::{self, chance};
+use second::searches::SORTS;
 use second::session::Session;
 use second::told;
 
@@ -125,6 +126,98 @@ fn a_fresh_tally_of_an_opened_trace_has_a_merge_for_each_reading_without_a_bucke
         }
     }
     assert!(balanced >= 1_000, "{balanced}");
+}
+
+/// The sorts that one search of the late table (0, 3, -1 to 4), (3, 2, 8 to 9), (7, 2, 2 to 9) is counted as.
+fn sorts_of(search: &str) -> Vec<String> {
+    let slots = "slot start=0 count=3 least=-1 largest=4\nslot at=1 start=3 count=2 least=8 largest=9\nslot at=2 start=7 count=2 least=2 largest=9";
+    let script = format!("room numbers=20\nopen kind=1 steps=1 gaps=2\n{slots}\nstate used=3 runs=2 readings=7\n{search}\n");
+    let counts = told::obey(script.as_bytes(), &mut std::io::sink()).unwrap();
+    let sort = |name: &String| name.strip_prefix("search: ").map(String::from);
+    counts.met().keys().filter_map(sort).collect()
+}
+
+#[test]
+fn searches_are_counted_as_what_they_are() {
+    for (search, sorts) in [
+        (
+            "over first=0 last=8 bar=5",
+            &[
+                "a hit",
+                "a hit late",
+                "bar one above the largest of one passed",
+                "hit at a middle bucket",
+                "more hits behind the first",
+            ][..],
+        ),
+        (
+            "over first=5 last=7 bar=9",
+            &[
+                "a hit",
+                "a hit late",
+                "bar at the hit's largest",
+                "begins in a gap and hits",
+                "ends inside the hit bucket",
+                "hit at the last bucket of three or more",
+                "hit behind one over before the range",
+            ],
+        ),
+        (
+            "over first=1 last=1 bar=4",
+            &[
+                "a hit",
+                "a hit late",
+                "bar at the hit's largest",
+                "begins and ends inside the hit bucket",
+                "begins inside the hit bucket",
+                "ends inside the hit bucket",
+                "hit at the first bucket of three or more",
+                "hit by one tick",
+            ],
+        ),
+        (
+            "over first=5 last=6 bar=9",
+            &[
+                "none",
+                "none before one over behind the range",
+                "wholly in a gap",
+                "wholly in a gap between two over the bar",
+            ],
+        ),
+        (
+            "over first=2 last=1 bar=4",
+            &[
+                "none",
+                "of an empty range",
+                "of an empty range in one over the bar",
+            ],
+        ),
+        (
+            "over first=9 last=9 bar=2147483647",
+            &["above the last tick held", "bar at the upper end", "none"],
+        ),
+        ("over first=16777216 last=5", &["first tick alone too far"]),
+        ("over last=16777216", &["last tick alone too far"]),
+        (
+            "state used=2\nover last=16777216",
+            &["unsound, and a tick too far"],
+        ),
+        ("state used=2\nover last=1", &[]),
+    ] {
+        assert_eq!(sorts_of(search), sorts, "{search}");
+    }
+}
+
+#[test]
+fn the_script_of_searches_meets_every_sort() {
+    let script = scripts::of_name("search").unwrap();
+    let met = told::obey(script.text.as_bytes(), &mut std::io::sink())
+        .unwrap()
+        .met();
+    for (sort, _) in SORTS {
+        let times = met.get(sort).copied().unwrap_or(0);
+        assert!(times >= 100, "{sort}: {times}");
+    }
 }
 
 #[test]

@@ -125,6 +125,28 @@ pub fn marked_room(kind: Kind, steps: u64, gaps: u64) -> Vec<i64> {
     vec![MARK; (calls::needed_slots(kind, steps, gaps) + SPARE) * SLOT]
 }
 
+/// The saved form of start, count, least and largest.
+pub fn bytes_of(records: &[(u32, u32, i32, i32)]) -> Vec<u8> {
+    let mut bytes = Vec::new();
+    for &(start, count, least, largest) in records {
+        bytes.extend(start.to_le_bytes());
+        bytes.extend(count.to_le_bytes());
+        bytes.extend(least.to_le_bytes());
+        bytes.extend(largest.to_le_bytes());
+    }
+    bytes
+}
+
+pub fn loaded(kind: Kind, steps: u64, gaps: u64, records: &[(u32, u32, i32, i32)]) -> Trace {
+    let mut room = marked_room(kind, steps, gaps);
+    let state = calls::load(kind, steps, gaps, &bytes_of(records), &mut room).unwrap();
+    Trace {
+        state,
+        room,
+        tally: Tally::default(),
+    }
+}
+
 pub fn bucket(start: u64, count: u64, least: i64, largest: i64) -> Bucket {
     Bucket {
         start,

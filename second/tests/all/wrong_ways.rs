@@ -1,7 +1,10 @@
-//! The easy ways to get the rule wrong, each on an input where it shows.
+//! The easy ways to get the rule wrong, each on an input where it shows; and those to get a search wrong, each on the script of searches.
 
 use crate::support::{bucket, Trace};
+use second::command::{Command, Name};
 use second::rule::{insertion, limit, neighbours, runs, Bucket, Kind};
+use second::scripts;
+use second::session::{Answer, Session};
 
 /// A way to keep a table: what makes a pair cheap, what a merged bucket is, what may be merged.
 struct Way {
@@ -140,4 +143,141 @@ fn merging_across_a_missing_tick() {
     ];
     let readings = [(0, 0), (1, 100), (5, 100), (6, 300), (7, 600)];
     differs_late(wrong, &readings, &right);
+}
+
+/// A way to search: which buckets are of the range, which are over the bar, which of those is told and by what index.
+struct SearchWay {
+    of_range: fn(&Bucket, u64, u64) -> bool,
+    over: fn(&Bucket, i64) -> bool,
+    last_hit: bool,
+    index_in_range: bool,
+}
+
+const RIGHT_SEARCH: SearchWay = SearchWay {
+    of_range: |bucket, first, last| first <= last && bucket.start <= last && first < bucket.end(),
+    over: |bucket, bar| bucket.largest >= bar,
+    last_hit: false,
+    index_in_range: false,
+};
+
+impl SearchWay {
+    fn answer(&self, table: &[Bucket], first: u64, last: u64, bar: i64) -> Option<(u64, u64)> {
+        let all = table.iter().zip(0..);
+        let of_range = all.filter(|(bucket, _)| (self.of_range)(bucket, first, last));
+        let mut hits = of_range
+            .zip(0..)
+            .filter(|((bucket, _), _)| (self.over)(bucket, bar));
+        let hit = if self.last_hit {
+            hits.last()
+        } else {
+            hits.next()
+        };
+        let ((bucket, index), index_in_range) = hit?;
+        let told = if self.index_in_range {
+            index_in_range
+        } else {
+            index
+        };
+        Some((told, bucket.start))
+    }
+
+    /// The searches of the script that are answered otherwise than the call answers them.
+    fn differences(&self) -> usize {
+        let script = scripts::of_name("search").unwrap();
+        let mut session = Session::new();
+        let mut differences = 0;
+        for line in script.text.lines() {
+            let Some(command) = Command::of_line(line).unwrap() else {
+                continue;
+            };
+            if let Answer::Over(Ok(right)) = session.obey(&command) {
+                let [first, last] = [Name::First, Name::Last].map(|end| command.number(end) as u32);
+                let bar = i64::from(command.number(Name::Bar) as i32);
+                let [first, last] = [first, last].map(u64::from);
+                let answer = self.answer(&session.buckets(), first, last, bar);
+                differences += usize::from(answer != right);
+            }
+        }
+        differences
+    }
+}
+
+fn differs_on_the_script(wrong: SearchWay) {
+    assert_eq!(RIGHT_SEARCH.differences(), 0);
+    let differences = wrong.differences();
+    assert!(differences >= 100, "{differences}");
+}
+
+#[test]
+fn an_empty_range_that_is_of_a_bucket() {
+    differs_on_the_script(SearchWay {
+        of_range: |bucket, first, last| bucket.start <= last && first < bucket.end(),
+        ..RIGHT_SEARCH
+    });
+}
+
+#[test]
+fn only_buckets_wholly_in_the_range() {
+    differs_on_the_script(SearchWay {
+        of_range: |bucket, first, last| first <= bucket.start && bucket.end() <= last + 1,
+        ..RIGHT_SEARCH
+    });
+}
+
+#[test]
+fn only_buckets_that_start_in_the_range() {
+    differs_on_the_script(SearchWay {
+        of_range: |bucket, first, last| first <= bucket.start && bucket.start <= last,
+        ..RIGHT_SEARCH
+    });
+}
+
+#[test]
+fn a_range_without_its_last_tick() {
+    differs_on_the_script(SearchWay {
+        of_range: |bucket, first, last| first < last && bucket.start < last && first < bucket.end(),
+        ..RIGHT_SEARCH
+    });
+}
+
+#[test]
+fn the_tick_after_a_bucket_taken_for_its_own() {
+    differs_on_the_script(SearchWay {
+        of_range: |bucket, first, last| {
+            first <= last && bucket.start <= last && first <= bucket.end()
+        },
+        ..RIGHT_SEARCH
+    });
+}
+
+#[test]
+fn above_the_bar_in_place_of_at_or_above() {
+    differs_on_the_script(SearchWay {
+        over: |bucket, bar| bucket.largest > bar,
+        ..RIGHT_SEARCH
+    });
+}
+
+#[test]
+fn the_level_in_place_of_the_largest_reading() {
+    differs_on_the_script(SearchWay {
+        over: |bucket, bar| bucket.level() >= bar,
+        ..RIGHT_SEARCH
+    });
+}
+
+#[test]
+fn the_last_hit() {
+    differs_on_the_script(SearchWay {
+        last_hit: true,
+        ..RIGHT_SEARCH
+    });
+}
+
+#[test]
+fn the_index_among_the_buckets_of_the_range() {
+    differs_on_the_script(SearchWay {
+        index_in_range: true,
+        ..RIGHT_SEARCH
+    });
 }

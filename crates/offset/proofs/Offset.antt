@@ -362,7 +362,7 @@ twice-level b =
     (omega (whole, middle-up a z, middle-down a z, sum m m, one-side (a +ℤ z), one-side m), omega (whole, middle-up a z, middle-down a z, sum m m, sum (m +ℤ m) (pos 1), one-side (a +ℤ z), one-side m))
 
 pub offset : Offset
-unfolding after
+unfolding after answer left readingsIn
 offset =
     record {
       rounded = twice-level;
@@ -374,4 +374,9 @@ offset =
       answers = λ d c e a xs ys h. from-alike d c e a xs ys h .0;
       leaves = λ d c e a xs ys h. from-alike d c e a xs ys h .1;
       any = all-higher;
+      searched = λ c first last bar. refl;
+      search-leaves = λ c first last bar. refl;
+      search-feeds = λ first last bar xs. refl;
+      search-any = λ d first last bar. searches-too first last bar;
+      search-same = λ d c e a first last bar. ap (λ (s : State). searchOutcome s (e .room) first last (bar +ℤ d)) (a .state) ∙ search-same d (c .state) (c .room) (e .room) (alike-along d c e a .twin) first last bar;
     }

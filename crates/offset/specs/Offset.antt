@@ -16,7 +16,8 @@ use Rattle.rule.specs.Bytes.{recordsOf}
 use Rattle.rule.specs.Room.{signed, sound, tableOf}
 use Rattle.rule.specs.Table.{Table, worst}
 use Rattle.saved.specs.Bytes.{AllBytes}
-use Rattle.offset.specs.Caller.{Answer, Call, Caller, after, answers, drawn, filed, idle, lates, loads, lookups, measured, nexts, opens, pointed, rows, saves, searches, shown, traced, worsts}
+use Rattle.over.specs.Search.{searchOutcome}
+use Rattle.offset.specs.Caller.{Answer, Call, Caller, after, answer, answers, drawn, filed, idle, lates, left, loads, lookups, measured, nexts, opens, pointed, rows, saves, searches, shown, traced, worsts}
 
 -- ---- d higher, d being any whole number
 
@@ -123,3 +124,10 @@ pub record Offset : Type 0 where
   pub leaves : (d : ℤ) (c e : Caller) → Alike d c e → (xs ys : List Call) → AllHigher d xs ys → Alike d (after c xs) (after e ys)
   -- and no calls are left out whose readings fit 32 bits, and fit them with d
   pub any : (d : ℤ) (xs : List Call) → ((v : ℤ) → List·Memᴰ v (readingsIn xs) → (signed v ≡ true) × (signed (v +ℤ d) ≡ true)) → AllHigher d xs (map (higher d) xs)
+  -- a search, whatever it asks: the call itself answers it of what the caller has, which stays; it feeds no reading, and no search is left out
+  pub searched : (c : Caller) (first last : ℕ) (bar : ℤ) → answer c (searches first last bar) ≡ pointed (searchOutcome (c .state) (c .room) first last bar)
+  pub search-leaves : (c : Caller) (first last : ℕ) (bar : ℤ) → left c (searches first last bar) ≡ c
+  pub search-feeds : (first last : ℕ) (bar : ℤ) (xs : List Call) → readingsIn (searches first last bar ∷ xs) ≡ readingsIn xs
+  pub search-any : (d : ℤ) (first last : ℕ) (bar : ℤ) → Higher d (searches first last bar) (searches first last (bar +ℤ d))
+  -- with the bar d more, the second gets the first one's answer
+  pub search-same : (d : ℤ) (c e : Caller) → Alike d c e → (first last : ℕ) (bar : ℤ) → searchOutcome (e .state) (e .room) first last (bar +ℤ d) ≡ searchOutcome (c .state) (c .room) first last bar

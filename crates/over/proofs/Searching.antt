@@ -6,7 +6,7 @@ use mathlib.Core.Bool.{Bool, true, false, cond, false≢true, not}
 use mathlib.Core.List.{List, [], _∷_, _++_, append-assoc, List·Memᴰ, List·Memᴰ·head, List·Memᴰ·tail, List·Memᴰ·cases-cons, List·Memᴰ·not-nil}
 use mathlib.Core.Option.{Option, some, none}
 use native.Mathlib.Omega.{arith}
-use borrow.Author.Tests.{leb-false, le-ltb, lt-leb, lt-ltb, ltb-true}
+use borrow.Author.Tests.{leb-false, le-leb, le-ltb, lt-leb, lt-ltb, ltb-true}
 use lib.Dec.{leb, ltb}
 use lib.IntN.{ℤ}
 use lib.ListN.{drop, length, length-append, take, take-append-drop}
@@ -145,6 +145,27 @@ module _ (first last : ℕ) (bar : ℤ) where
       (λ h. ⊎-elim (here i b t index start h) (λ n. further i b t index start (only (suc i) t index start n)) (List·Memᴰ·cases-cons (rw h at m)))
       (λ h. further i b t index start (only (suc i) t index start (rw h at m)))
 
+  in-turn : (i : ℕ) (t : Table) (front : List (ℕ × ℕ)) (h : ℕ × ℕ) (back : List (ℕ × ℕ)) → allOver first last bar i t ≡ front ++ (h ∷ back) → (k : ℕ × ℕ) → List·Memᴰ k back → h .0 < k .0
+  unfolding allOver
+  in-turn i [] [] h back e k m = absurd (let z : _≡_ {A = ℕ} 0 1 = cc in omega arith)
+  in-turn i [] (f ∷ front) h back e k m = absurd (let z : _≡_ {A = ℕ} 0 1 = cc in omega arith)
+  in-turn i (b ∷ t) [] h back e k m =
+      by-test (over first last bar b)
+      (λ o.
+      let g = rw o at e in
+      let same : (i, b .start) ≡ h = cc in
+      let rest : allOver first last bar (suc i) t ≡ back = cc in
+      let w = only (suc i) t (k .0) (k .1) (rw (sym rest) at m) in
+      omega (arith, ap (λ (p : ℕ × ℕ). p .0) same, w .counted))
+      (λ o. in-turn (suc i) t [] h back (rw o at e) k m)
+  in-turn i (b ∷ t) (f ∷ front) h back e k m =
+      by-test (over first last bar b)
+      (λ o.
+      let g = rw o at e in
+      let rest : allOver first last bar (suc i) t ≡ front ++ (h ∷ back) = cc in
+      in-turn (suc i) t front h back rest k m)
+      (λ o. in-turn (suc i) t (f ∷ front) h back (rw o at e) k m)
+
   -- ---- in the promise's words
 
   hit : (t : Table) (index start : ℕ) → Stop 0 t index start → Hit first last bar t index start
@@ -240,10 +261,22 @@ empty-over first last bar b h = rw (le-ltb (max first (b .start)) (min (suc last
 below : (n : ℕ) → n ≤ 16777215 → leb ticks n ≡ false
 below n h = lt-leb ticks n (omega arith)
 
+above : (s : State) (l : List ℤ) (first last : ℕ) (bar : ℤ) → sound s l ≡ true → 16777215 < max first last → searchOutcome s l first last bar ≡ Sought.Refused Refusal.Tick
+unfolding searchOutcome soughtOf checked
+above s l first last bar fit h =
+    by-test (leb ticks first) (λ k. rw (fit, k))
+    (λ k. let far : leb ticks last ≡ true = le-leb ticks last (omega (arith, leb-false ticks first k)) in rw (fit, k, far))
+
+unsound : (s : State) (l : List ℤ) (first last : ℕ) (bar : ℤ) → sound s l ≡ false → searchOutcome s l first last bar ≡ Sought.Refused Refusal.Unsound
+unfolding searchOutcome soughtOf checked
+unsound s l first last bar fit = rw fit
+
 pub searches : Searches
 unfolding sought
 searches =
     record {
+      unsound = unsound;
+      above = above;
       touched = touched;
       touching = touching;
       hits = λ s l first last bar index start e. first-hit first last bar (tableOf s l) index start (stops first last bar 0 (tableOf s l) index start (at-accepted first last bar s l index start e .is));
@@ -251,6 +284,7 @@ searches =
       as-all = λ s l first last bar fit h k. answers first last bar s l fit (below first h) (below last k) ∙ first-of-all first last bar 0 (tableOf s l);
       every = λ t first last bar index start w. hit-told first last bar t index start w;
       only = λ t first last bar index start m. hit first last bar t index start (only first last bar 0 t index start m);
+      in-turn = λ t first last bar front h back e k m. in-turn first last bar 0 t front h back e k m;
       behind = λ s z l m first last bar index start e fit same.
           let a = at-accepted first last bar s l index start e in
           answers first last bar z m fit (a .first-in) (a .last-in) ∙ ap sought (same-hit first last bar (tableOf s l) (tableOf z m) index start (a .is) same);

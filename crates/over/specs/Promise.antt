@@ -1,12 +1,13 @@
--- What is promised of the search, in the request's words and numbers. When it is refused is said with the other calls, in answered.
-use Prim.Native.Nat.{ℕ, suc, _+_, _≤_, _<_}
+-- What is promised of the search, in the request's words and numbers.
+use Prim.Native.Nat.{ℕ, suc, _+_, _≤_, _<_, max}
 use mathlib.Core.Path.{_≡_}
-use mathlib.Core.Bool.{true, cond}
+use mathlib.Core.Bool.{true, false, cond}
 use mathlib.Core.List.{List, [], _∷_, _++_, List·Memᴰ}
 use lib.IntN.{ℤ}
 use lib.ListN.{length, take}
 use lib.Signed.{leZ}
 use Rattle.rule.specs.declared.Bucket.{Bucket}
+use Rattle.rule.specs.declared.Refusal.{Refusal}
 use Rattle.rule.specs.declared.State.{State}
 use Rattle.rule.specs.Room.{sound, tableOf}
 use Rattle.rule.specs.Table.{Table}
@@ -57,6 +58,9 @@ answerOf (h ∷ hs) = Sought.At (h .0) (h .1)
 -- ---- the promise
 
 pub record Searches : Type 0 where
+  -- refused by 4, then by 6 where either end is above the last tick; otherwise answered, as `as-all` says
+  pub unsound : (s : State) (l : List ℤ) (first last : ℕ) (bar : ℤ) → sound s l ≡ false → searchOutcome s l first last bar ≡ Sought.Refused Refusal.Unsound
+  pub above : (s : State) (l : List ℤ) (first last : ℕ) (bar : ℤ) → sound s l ≡ true → 16777215 < max first last → searchOutcome s l first last bar ≡ Sought.Refused Refusal.Tick
   -- a bucket touches the range exactly when some tick of the range is in it
   pub touched : (first last : ℕ) (b : Bucket) → touches first last b ≡ true → Shares first last b
   pub touching : (first last : ℕ) (b : Bucket) → Shares first last b → touches first last b ≡ true
@@ -66,9 +70,10 @@ pub record Searches : Type 0 where
   -- it answers as reading all would
   pub as-all : (s : State) (l : List ℤ) (first last : ℕ) (bar : ℤ) → sound s l ≡ true → first ≤ 16777215 → last ≤ 16777215
       → searchOutcome s l first last bar ≡ answerOf (allOver first last bar 0 (tableOf s l))
-  -- and reading all leaves no hit out and adds none
+  -- and reading all leaves no hit out, adds none, and tells each once, those of a lesser index first
   pub every : (t : Table) (first last : ℕ) (bar : ℤ) (index start : ℕ) → Hit first last bar t index start → List·Memᴰ (index, start) (allOver first last bar 0 t)
   pub only : (t : Table) (first last : ℕ) (bar : ℤ) (index start : ℕ) → List·Memᴰ (index, start) (allOver first last bar 0 t) → Hit first last bar t index start
+  pub in-turn : (t : Table) (first last : ℕ) (bar : ℤ) (front : List (ℕ × ℕ)) (h : ℕ × ℕ) (back : List (ℕ × ℕ)) → allOver first last bar 0 t ≡ front ++ (h ∷ back) → (k : ℕ × ℕ) → List·Memᴰ k back → h .0 < k .0
   -- the buckets behind the hit play no part: a sound trace with the same buckets up to it, whatever comes then, gets the same answer
   pub behind : (s z : State) (l m : List ℤ) (first last : ℕ) (bar : ℤ) (index start : ℕ) → searchOutcome s l first last bar ≡ Sought.At index start
       → sound z m ≡ true → take (suc index) (tableOf z m) ≡ take (suc index) (tableOf s l) → searchOutcome z m first last bar ≡ Sought.At index start

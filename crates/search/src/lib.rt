@@ -2,7 +2,7 @@
 ghost use mathlib.Core.Path.{_≡_};
 ghost use Rattle.over.specs.Search.{firstOver, over, searchOutcome, sought, touches};
 ghost use Rattle.rule.specs.Room.{slots};
-ghost use Rattle.slots.specs.Slots.{Filled};
+ghost use Rattle.search.specs.Reading.{Readable};
 use over::Sought;
 use rule::Bucket;
 use rule::Refusal;
@@ -38,9 +38,9 @@ pub(crate) fn over(first: u32, last: u32, bar: i32, b: Bucket) -> bool
     touches(first, last, b)
 }
 
-// One pass over the slots in use, left at the first bucket that is over.
+// One pass over the slots in use, left at the first bucket that is over. Of the slots it knows only those that no hit stands before.
 pub(crate) fn first_hit(room: &[i64], used: usize, first: u32, last: u32, bar: i32) -> Sought
-    requires { ⌜ Filled (now room) used ⌝ }
+    requires { ⌜ Readable first last bar (now room) used ⌝ }
     ensures { λ r. ⌜ r ≡ sought (firstOver first last bar 0 (slots (now (room .entry)) 0 used)) ⌝ }
 {
     let mut i = 0;

@@ -9,7 +9,6 @@ use mir.Val.{ofZ, toZ}
 use mir.Facts.{toZ-ofZ}
 use Rattle.over.specs.Search.{over, sought}
 use Rattle.rule.specs.Room.{slot}
-use Rattle.slots.proofs.Reading.{filled}
 use Rattle.search.proofs.Passing.{Passed, passed-end, passed-next, passed-start, passed-stop}
 use Rattle.search.proofs.first_hit.Statement.{statement}
 use Rattle.search.proofs.first_hit.Tie as tie
@@ -19,6 +18,11 @@ Inv-loop room used first last bar i₀ i = Passed first last (toZ w32 bar) room 
 
 abbrev μ-loop : tie.MeasureT-loop
 μ-loop room used first last bar i₀ i = used - i
+
+read-requires : tie.Need-read-requires Inv-loop μ-loop
+read-requires c κs =
+    let start = c .before .before in
+    start .pre .slots (c .before .loop .i) (c .loop-test .taken) (rw (toZ-ofZ (start .fits .bar)) at (c .before .loop .inv .none-yet))
 
 -- what the turn's test told of the slot
 told : (c : tie.After-over Inv-loop μ-loop) {v : Bool} → c .over .result ≡ v
@@ -55,7 +59,7 @@ first-hit-spec =
     Inv-loop
     μ-loop
     (λ c. let a = c .args in passed-start (a .first) (a .last) (toZ w32 (ofZ w32 (a .bar))) (a .room .now) (a .used))  -- loop-holds
-    (λ c κs. filled (c .before .before .pre) (c .before .loop .i) (omega arith))  -- read-requires
+    read-requires
     (λ c κs. search needs)  -- over-requires
     returns
     (λ c. omega arith)  -- add-i

@@ -12,6 +12,7 @@ use Rattle.rule.specs.Numbers.{ticks}
 use Rattle.rule.specs.Room.{sound}
 use Rattle.rule.proofs.Ruling.{flipped}
 use Rattle.room.proofs.Sounding.{sound-facts, sound-filled}
+use Rattle.slots.proofs.Reading.{filled}
 use Rattle.search.proofs.first_over.Statement.{statement}
 use Rattle.search.proofs.first_over.Tie as tie
 
@@ -46,7 +47,8 @@ returns-3 c =
 first-hit-requires : tie.Need-first-hit-requires
 first-hit-requires c κs =
     let a = c .before .before .before .before .before .args in
-    sound-filled (a .trace .state) (a .room .now) (sound-facts (a .trace .state) (a .room .now) (whole (c .before .before)))
+    let all = sound-filled (a .trace .state) (a .room .now) (sound-facts (a .trace .state) (a .room .now) (whole (c .before .before))) in
+    record { slots = λ i h _. filled all i h }
 
 returns-4 : tie.Need-returns-4
 unfolding searchOutcome soughtOf checked

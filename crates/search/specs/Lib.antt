@@ -1,0 +1,2 @@
+-- What the search may read.
+pub mod Reading

@@ -1,5 +1,5 @@
 // Obeys a short script from standard input and writes what every call answers and leaves. The language is the one that second/src/command.rs
-// describes; obeyed are the calls but for the row and the readings with a tally, and of the changes state, room, set, file, byte and take.
+// describes; obeyed are the calls but for the search, the row and the readings with a tally, and of the changes state, room, set, file, byte and take.
 mod line;
 mod show;
 

@@ -45,7 +45,7 @@ use Rattle.fields.specs.declared.Fields.{Fields}
 use Rattle.fields.specs.declared.Named.{Named}
 use Rattle.plain.specs.declared.Reply.{Reply}
 use Rattle.fields.specs.States.{fieldsOf, kindOf, none, numberOf, settingsOf, stateFrom}
-use Rattle.plain.specs.Plain.{erring, lookupReply, pointing, replied, replying, searchReply, showing, telling, told, worstReply}
+use Rattle.plain.specs.Plain.{erring, lookupReply, pointing, replied, replying, showing, telling, told, worstReply}
 use Rattle.fields.proofs.SameState.{same-state}
 use Rattle.answered.specs.Answered.{Answered, Row, fileRows, firstOf, lateRows, lookupRows, nextRows, openRows, said, saidFound, saidMeasured, saidSought, saidWritten, searchRows, worstRows, writeRows}
 use Rattle.promises.specs.Reached.{Reached}

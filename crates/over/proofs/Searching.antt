@@ -2,12 +2,12 @@
 use Prim.Native.Nat.{ℕ, suc, _+_, _≤_, _<_, max, min}
 use mathlib.Core.Path.{_≡_, refl, sym, ap, subst, _∙_}
 use mathlib.Core.Logic.{⊎-elim}
-use mathlib.Core.Bool.{Bool, true, false, cond, false≢true, not}
+use mathlib.Core.Bool.{true, false, false≢true, not}
 use mathlib.Core.List.{List, [], _∷_, _++_, append-assoc, List·Memᴰ, List·Memᴰ·head, List·Memᴰ·tail, List·Memᴰ·cases-cons, List·Memᴰ·not-nil}
 use mathlib.Core.Option.{Option, some, none}
 use native.Mathlib.Omega.{arith}
 use borrow.Author.Tests.{leb-false, le-leb, le-ltb, lt-leb, lt-ltb, ltb-true}
-use lib.Dec.{leb, ltb}
+use lib.Dec.{leb}
 use lib.IntN.{ℤ}
 use lib.ListN.{drop, length, length-append, take, take-append-drop}
 use lib.Seq.{take-at}
@@ -67,27 +67,11 @@ module _ (first last : ℕ) (bar : ℤ) where
 
   here : (i : ℕ) (b : Bucket) (t : Table) (index start : ℕ) → over first last bar b ≡ true → _≡_ {A = ℕ × ℕ} (index, start) (i, b .start) → Stop i (b ∷ t) index start
   here i b t index start h e =
-      record {
-        front = [];
-        bucket = b;
-        back = t;
-        stands = refl;
-        counted = ap (λ (p : ℕ × ℕ). p .0) e ∙ omega arith;
-        begins = ap (λ (p : ℕ × ℕ). p .1) e;
-        over = h;
-      }
+      record { front = []; bucket = b; back = t; stands = refl; counted = omega (arith, ap (λ (p : ℕ × ℕ). p .0) e); begins = ap (λ (p : ℕ × ℕ). p .1) e; over = h }
 
   further : (i : ℕ) (b : Bucket) (t : Table) (index start : ℕ) → Stop (suc i) t index start → Stop i (b ∷ t) index start
   further i b t index start w =
-      record {
-        front = b ∷ w .front;
-        bucket = w .bucket;
-        back = w .back;
-        stands = ap (λ (u : Table). b ∷ u) (w .stands);
-        counted = w .counted ∙ omega arith;
-        begins = w .begins;
-        over = w .over;
-      }
+      record { front = b ∷ w .front; bucket = w .bucket; back = w .back; stands = ap (λ (u : Table). b ∷ u) (w .stands); counted = omega (arith, w .counted); begins = w .begins; over = w .over }
 
   stops : (i : ℕ) (t : Table) (index start : ℕ) → firstOver first last bar i t ≡ some (index, start) → Stops i t index start
   unfolding firstOver here further
@@ -170,15 +154,7 @@ module _ (first last : ℕ) (bar : ℤ) where
 
   hit : (t : Table) (index start : ℕ) → Stop 0 t index start → Hit first last bar t index start
   hit t index start w =
-      record {
-        front = w .front;
-        bucket = w .bucket;
-        back = w .back;
-        stands = w .stands;
-        counted = omega (arith, w .counted);
-        begins = w .begins;
-        over = is-over first last bar (w .bucket) (w .over);
-      }
+      record { front = w .front; bucket = w .bucket; back = w .back; stands = w .stands; counted = omega (arith, w .counted); begins = w .begins; over = is-over first last bar (w .bucket) (w .over) }
 
   hit-told : (t : Table) (index start : ℕ) → Hit first last bar t index start → List·Memᴰ (index, start) (allOver first last bar 0 t)
   hit-told t index start w =

@@ -1,11 +1,10 @@
 -- Searches worked by hand, in a late trace of three buckets with a gap of two ticks before the last.
 use Prim.Native.Nat.{ℕ}
 use mathlib.Core.Path.{_≡_}
-use mathlib.Core.List.{List, [], _∷_, _++_}
+use mathlib.Core.List.{[], _∷_, _++_}
 use lib.IntN.{ℤ, pos, negsuc}
 use lib.ListN.{replicate}
 use Rattle.rule.specs.declared.Refusal.{Refusal}
-use Rattle.rule.specs.declared.State.{State}
 use Rattle.rule.specs.ByHand.{bucket, gappy}
 use Rattle.rule.specs.Room.{flat}
 use Rattle.rule.specs.Table.{Table}

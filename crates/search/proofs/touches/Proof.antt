@@ -1,7 +1,7 @@
 -- `search::touches` meets its contract: of the four comparisons of the two beginnings with the two ends one that fails is enough to answer no, and the last one is left.
 use Prim.Native.Nat.{ℕ, suc, _<_, _≤_, max, min}
 use mathlib.Core.Path.{_≡_, sym}
-use mathlib.Core.Bool.{Bool, true, false}
+use mathlib.Core.Bool.{false}
 use native.Mathlib.Omega.{arith}
 use borrow.Author.Needs.{needs}
 use borrow.Author.Tests.{le-ltb, lt-ltb, ltb-false, ltb-true}

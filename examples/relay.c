@@ -37,7 +37,7 @@ int main(void)
         return 1;
     printf("tick 5: level %" PRId32 ", error %" PRIu32 ", %" PRId32 " to %" PRId32 "\n", drop.level, drop.error, drop.least, drop.largest);
 
-    /* After the drop, where is the coil first back at 12 V or above? */
+    /* After the drop, where is the coil first back at 12 V or above? A bucket that begins before tick 5 and reaches it would count too. */
     ndz_hit back = ndz_first_over(state, room, NUMBERS, 5, NDZ_LAST_TICK, 12000);
     if (refused("first over", back.refusal))
         return 1;

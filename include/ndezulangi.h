@@ -122,7 +122,7 @@ typedef struct {
 } ndz_found;
 
 /* Where a trace is first over a bar: `found` is 1 where a bucket is over, then its index from 0 and its start tick. Zeros
- * where there is none, and where refused. */
+ * where there is none, and where refused: look at `refusal`, then at `found`, since index 0 and start 0 are a hit's too. */
 typedef struct {
     uint32_t refusal;
     uint64_t place;
@@ -166,8 +166,10 @@ ndz_answer ndz_late_tallied(ndz_state state, int64_t *room, size_t numbers, uint
 ndz_found ndz_lookup(ndz_state state, const int64_t *room, size_t numbers, uint32_t tick);
 
 /* The first bucket that holds a tick from `first` to `last`, both included, and whose largest reading is at or above `bar`.
- * A bucket partly in the range counts with its whole largest reading; a range with `first` above `last` has none. The index
- * counts the buckets of the trace from 0, as ndz_row writes them, not those of the range. Writes nothing.
+ * A bucket partly in the range counts with its whole largest reading, so its start may lie before `first`, and the reading
+ * at or above `bar` may be of one of its ticks outside the range; where none is found, no reading of the range is at or
+ * above `bar`. A range with `first` above `last` has none. The index counts the buckets of the trace from 0, as ndz_row
+ * writes them, not those of the range. Writes nothing.
  * Refuses: NDZ_UNSOUND, NDZ_TICK (either end is above NDZ_LAST_TICK, of an empty range too). */
 ndz_hit ndz_first_over(ndz_state state, const int64_t *room, size_t numbers, uint32_t first, uint32_t last, int32_t bar);
 
@@ -211,7 +213,7 @@ static inline const char *ndz_refusal_text(uint32_t refusal)
     case NDZ_ROOM: return "the room is too short";
     case NDZ_UNSOUND: return "state and room are not a sound trace";
     case NDZ_KIND: return "the call is for the other kind of trace";
-    case NDZ_TICK: return "the tick is above the last one, or no tick is left";
+    case NDZ_TICK: return "a tick is above the last one, or no tick is left";
     case NDZ_LENGTH: return "the saved bytes are not a multiple of 16";
     case NDZ_RECORD: return "a saved record breaks a rule";
     case NDZ_RUNS: return "there would be more runs than allowed";

@@ -19,7 +19,7 @@ pub struct Search {
 /// A sort by its name, and whether a search is of it.
 pub type Sort = (&'static str, fn(&Search) -> bool);
 
-pub const SORTS: [Sort; 34] = [
+pub const SORTS: [Sort; 38] = [
     ("search: a hit", |search| search.of_hit(|_| true)),
     ("search: a hit in order", |search| {
         search.of_hit(|_| !search.late)
@@ -46,6 +46,9 @@ pub const SORTS: [Sort; 34] = [
     ),
     ("search: hit past the 256th bucket", |search| {
         search.hit > Some(255)
+    }),
+    ("search: hit past the 512th bucket", |search| {
+        search.hit > Some(511)
     }),
     ("search: more hits behind the first", |search| {
         let behind = |index| search.hit.is_some_and(|hit| hit < index);
@@ -138,6 +141,16 @@ pub const SORTS: [Sort; 34] = [
     }),
     ("search: both ticks too far, of an empty range", |search| {
         search.refusal == Some(TICK) && search.too_far() == [true, true] && search.is_empty()
+    }),
+    ("search: last tick alone too far, at 4294967295", |search| {
+        search.too_far() == [false, true] && search.last == u64::from(u32::MAX)
+    }),
+    (
+        "search: first tick alone too far, at 4294967295",
+        |search| search.too_far() == [true, false] && search.first == u64::from(u32::MAX),
+    ),
+    ("search: unsound, and an empty range", |search| {
+        search.refusal == Some(UNSOUND) && search.too_far() == [false, false] && search.is_empty()
     }),
 ];
 

@@ -1,15 +1,16 @@
 -- The exported functions keep the demands: each replies what its call answers, and what they reach is what the calls reach.
 use Prim.Native.Nat.{ℕ, _*_, _≤_, _<_}
 use mathlib.Core.Path.{_≡_, refl, sym, ap, _∙_, subst}
-use mathlib.Core.Logic.{_≢_}
+use mathlib.Core.Logic.{_≢_, ⊎-elim}
 use mathlib.Core.Bool.{Bool, true, false, cond}
-use mathlib.Core.List.{List, [], _∷_, _++_, List·Memᴰ}
+use mathlib.Core.List.{List, [], _∷_, _++_, List·Memᴰ, List·Memᴰ·cases-cons, List·Memᴰ·head, List·Memᴰ·not-nil, List·Memᴰ·tail, Memᴰ·append-right}
 use mathlib.Core.Option.{Option, some}
 use native.Mathlib.Omega.{arith}
-use borrow.Author.Tests.{le-ltb, lt-leb}
-use lib.Dec.{leb}
+use borrow.Author.Tests.{eqb-false, le-ltb, lt-leb}
+use lib.Dec.{eqb, leb}
 use lib.IntN.{ℤ}
 use lib.ListN.{drop, length, take}
+use lib.Signed.{leZ}
 use Rattle.rule.specs.declared.Bucket.{Bucket}
 use Rattle.rule.specs.declared.Refusal.{Refusal}
 use Rattle.rule.specs.declared.Refusal.the-variants.{Steps, Gaps, Room, Unsound, Kind, Tick, Length, Record, Runs, Overfull, Taken, Absent, Short, Line}
@@ -24,9 +25,9 @@ use Rattle.rule.specs.Bytes.{saved}
 use Rattle.rule.specs.Calls.{Verdict, accepted, checked, counted, found, foundOf, grown, isHeld, kept, late, lateOutcome, lateVerdict, loaded, lookupOutcome, nextOutcome, nextVerdict, opened, refused, rowOutcome, saveOutcome, traced, writeVerdict, wrote}
 use Rattle.rule.specs.Numbers.{recordWidth, slotWidth, ticks}
 use Rattle.rule.specs.Room.{allOf, clauses, sound, stepsGood, tableOf}
-use Rattle.rule.specs.Table.{Table, holding, holds, needed, worst}
-use Rattle.rule.proofs.Whole.{by-test}
-use Rattle.rule.proofs.Tables.{one}
+use Rattle.rule.specs.Table.{Table, holders, holding, holds, needed, worst}
+use Rattle.rule.proofs.Whole.{by-test, whole}
+use Rattle.rule.proofs.Tables.{held-within, one}
 use Rattle.record.proofs.RoundTrip.{length-saved}
 use Rattle.slots.proofs.Laying.{length-slots}
 use Rattle.room.proofs.Placing.{held-counts}
@@ -48,6 +49,7 @@ use Rattle.fields.specs.States.{fieldsOf, kindOf, none, numberOf, settingsOf, s
 use Rattle.plain.specs.Plain.{erring, lookupReply, pointing, replied, replying, showing, telling, told, worstReply}
 use Rattle.fields.proofs.SameState.{same-state}
 use Rattle.answered.specs.Answered.{Answered, Row, fileRows, firstOf, lateRows, lookupRows, nextRows, openRows, said, saidFound, saidMeasured, saidSought, saidWritten, searchRows, worstRows, writeRows}
+use Rattle.promises.specs.Demands.{Upheld}
 use Rattle.promises.specs.Reached.{Reached}
 use Rattle.exported.specs.Exported.{Called, Counts, Errs, ExportedDemand1, ExportedDemand2, ExportedSearch, Points, Promised, Replies, Shows, Tallies, firstDue, wroteAll}
 use Rattle.answered.proofs.Answering.{demand1, needed-is}
@@ -275,6 +277,41 @@ same-test true false e = absurd (omega arith)
 same-test false true e = absurd (omega arith)
 same-test false false e = refl
 
+-- ---- what the search says of the readings
+
+arrives : (r : Reading) (rs : List Reading) → List·Memᴰ r rs → arrived (r .tick) rs ≡ true
+unfolding arrived
+arrives r [] m = absurd (List·Memᴰ·not-nil m)
+arrives r (a ∷ rs) m =
+    by-test (eqb (a .tick) (r .tick)) (λ h. rw h)
+    (λ h. rw h (⊎-elim (λ e. absurd (eqb-false (a .tick) (r .tick) h (ap (λ (x : Reading). x .tick) (sym e)))) (arrives r rs) (List·Memᴰ·cases-cons m)))
+
+holder : (tick : ℕ) (t : Table) → 1 ≤ holders tick t → (b : Bucket) × List·Memᴰ b t × (holds tick b ≡ true)
+unfolding holders
+holder tick [] h = absurd (omega arith)
+holder tick (b ∷ t) h =
+    by-test (holds tick b) (λ e. (b, List·Memᴰ·head refl, e)) (λ e. let w = holder tick t (omega (arith, rw e at h)) in (w .0, List·Memᴰ·tail (w .1), w .2))
+
+module _ {g : Settings} {rs : List Reading} {s : State} {l : List ℤ} (k : Upheld g rs s l) (first last : ℕ) (bar : ℤ) where
+  none-over : ((b : Bucket) → List·Memᴰ b (tableOf s l) → Over first last bar b → ⊥) → (r : Reading) → List·Memᴰ r rs → first ≤ r .tick → r .tick ≤ last → leZ bar (r .value) ≡ false
+  none-over f r m low high =
+      by-test (leZ bar (r .value))
+      (λ e.
+      let w = holder (r .tick) (tableOf s l) (omega (arith, k .covers (r .tick), ap one (arrives r rs m))) in
+      let b = w .0 in
+      let inside = held-within (r .tick) b (w .2) in
+      let below = k .extremes b (w .1) .bounds r m (w .2) .1 in
+      let reaches : leZ bar (b .largest) ≡ true = omega (whole, e, below) in
+      absurd (f b (w .1) (record { shares = record { tick = r .tick; from-first = low; to-last = high; from-start = inside .0; before-end = inside .1 }; reaches = reaches })))
+      (λ e. e)
+
+  some-over : {index start : ℕ} → First first last bar (tableOf s l) index start → (r : Reading) × List·Memᴰ r rs × (start ≤ r .tick) × (leZ bar (r .value) ≡ true)
+  some-over w =
+      let b = w .hit .bucket in
+      let m : List·Memᴰ b (tableOf s l) = subst (List·Memᴰ b) (sym (w .hit .stands)) (Memᴰ·append-right (w .hit .front) (List·Memᴰ·head refl)) in
+      let i = k .extremes b m .largest in
+      (record { tick = i .tick; value = b .largest }, i .arrived, omega (arith, held-within (i .tick) b (i .held), w .hit .begins), w .hit .over .reaches)
+
 -- ---- demands 2 and 3
 
 pub promises : {named : Named} {rs : List Reading} {f : Fields} {l : List ℤ} → Called named rs f l → Promised named rs f l
@@ -313,6 +350,8 @@ promises {named} {rs} {f} {l} c =
       worst-within = λ curve E few near. subst (λ (x : Table). worst x ≤ E) (k .buckets) (k .picture curve E few near .1);
       lookups = λ tick b m h. ap showing (k .lookups tick b (subst (List·Memᴰ b) (sym (k .buckets)) m) h);
       searches = λ first last bar h g. ap pointing (searching.searches .as-all (stateFrom f) l first last bar (k .fit) h g ∙ ap (λ (x : Table). answerOf (allOver first last bar 0 x)) (k .buckets));
+      none-over = λ first last bar z e. none-over k first last bar (exported-search .misses f l first last bar z e);
+      some-over = λ first last bar e. some-over k first last bar (exported-search .hits f l first last bar e);
       covers = λ tick.
           looked f l tick (arrived tick rs) (k .fit)
           (same-test (isHeld (holding tick t)) (arrived tick rs) (sym (held-counts 0 tick t (sound-ordered (stateFrom f) l facts)) ∙ k .covers tick))

@@ -7,6 +7,7 @@ use mathlib.Core.List.{List, [], _∷_, _++_, List·Memᴰ}
 use lib.Dec.{leb}
 use lib.IntN.{ℤ, pos}
 use lib.ListN.{drop, length, take}
+use lib.Signed.{leZ}
 use Rattle.rule.specs.declared.Bucket.{Bucket}
 use Rattle.rule.specs.declared.Kind.the-variants.{InOrder, Late}
 use Rattle.rule.specs.declared.Tally.{Tally}
@@ -176,6 +177,9 @@ pub record Promised (named : Named) (rs : List Reading) (f : Fields) (l : List �
       → lookupReply f l tick ≡ record { refusal = 0; place = 0; level = level b; error = error b; least = b .least; largest = b .largest }
   -- ndz_first_over answers as whoever reads all the buckets of the rule
   pub searches : (first last : ℕ) (bar : ℤ) → first ≤ 16777215 → last ≤ 16777215 → searchReply f l first last bar ≡ pointing (answerOf (allOver first last bar 0 (bucketsOf named rs)))
+  -- what that says of the readings: where it finds none, no accepted reading at a tick of the range is at or above the bar; where it finds one, some accepted reading from its start on is
+  pub none-over : (first last : ℕ) (bar : ℤ) → let h = searchReply f l first last bar in h .refusal ≡ 0 → h .found ≡ 0 → (r : Reading) → List·Memᴰ r rs → first ≤ r .tick → r .tick ≤ last → leZ bar (r .value) ≡ false
+  pub some-over : (first last : ℕ) (bar : ℤ) → let h = searchReply f l first last bar in h .found ≡ 1 → (r : Reading) × List·Memᴰ r rs × (h .start ≤ r .tick) × (leZ bar (r .value) ≡ true)
   -- ndz_lookup shows exactly the ticks of the accepted readings: any other is refused, above the last tick by 6 and else by 12
   pub covers : (tick : ℕ) → lookupReply f l tick .refusal ≡ cond (arrived tick rs) 0 (cond (leb 16777216 tick) 6 12)
 

@@ -362,7 +362,7 @@ twice-level b =
     (omega (whole, middle-up a z, middle-down a z, sum m m, one-side (a +ℤ z), one-side m), omega (whole, middle-up a z, middle-down a z, sum m m, sum (m +ℤ m) (pos 1), one-side (a +ℤ z), one-side m))
 
 pub offset : Offset
-unfolding after answer left readingsIn
+unfolding after answer answers left readingsIn
 offset =
     record {
       rounded = twice-level;
@@ -373,6 +373,8 @@ offset =
       before = λ d s t fs gs f. all d (idle s t fs) [] gs (idle-along d s t fs gs f) no-more .1;
       answers = λ d c e a xs ys h. from-alike d c e a xs ys h .0;
       leaves = λ d c e a xs ys h. from-alike d c e a xs ys h .1;
+      answers-each = λ c x xs. refl;
+      after-each = λ c x xs. refl;
       any = all-higher;
       searched = λ c first last bar. refl;
       search-leaves = λ c first last bar. refl;

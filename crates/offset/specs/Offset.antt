@@ -118,6 +118,9 @@ pub record Offset : Type 0 where
   pub worsts : (d : ℤ) (t : Table) → worst (movedAll d t) ≡ worst t
   -- two callers are alike before the first open, with any state and tally, and any files of which the second's are d higher
   pub before : (d : ℤ) (s : State) (t : Tally) (fs gs : List (List ℕ)) → FilesMoved d fs gs → Alike d (idle s t fs) (idle s t gs)
+  -- the answers are those of the calls one by one, each of what the one before it left
+  pub answers-each : (c : Caller) (x : Call) (xs : List Call) → answers c (x ∷ xs) ≡ answer c x ∷ answers (left c x) xs
+  pub after-each : (c : Caller) (x : Call) (xs : List Call) → after c (x ∷ xs) ≡ after (left c x) xs
   -- of two that are alike, each answer that the second gets is the first one's, moved, whatever they call
   pub answers : (d : ℤ) (c e : Caller) → Alike d c e → (xs ys : List Call) → AllHigher d xs ys → answers e ys ≡ map (movedAnswer d) (answers c xs)
   -- they stay alike

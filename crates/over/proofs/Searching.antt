@@ -247,14 +247,22 @@ unsound : (s : State) (l : List ℤ) (first last : ℕ) (bar : ℤ) → sound s 
 unfolding searchOutcome soughtOf checked
 unsound s l first last bar fit = rw fit
 
+not-refused : (o : Option (ℕ × ℕ)) (r : Refusal) → sought o ≡ Sought.Refused r → ⊥
+unfolding sought
+not-refused none r e = absurd (let z : _≡_ {A = ℕ} 0 1 = cc in omega arith)
+not-refused (some h) r e = absurd (let z : _≡_ {A = ℕ} 0 1 = cc in omega arith)
+
 pub searches : Searches
 unfolding sought
 searches =
     record {
       unsound = unsound;
       above = above;
+      answered = λ s l first last bar r fit h k e. not-refused (firstOver first last bar 0 (tableOf s l)) r (sym (answers first last bar s l fit (below first h) (below last k)) ∙ e);
       touched = touched;
       touching = touching;
+      over-told = is-over;
+      over-telling = over-is;
       hits = λ s l first last bar index start e. first-hit first last bar (tableOf s l) index start (stops first last bar 0 (tableOf s l) index start (at-accepted first last bar s l index start e .is));
       misses = λ s l first last bar e b m. not-over first last bar b (missed first last bar 0 (tableOf s l) (nowhere-accepted first last bar s l e .is) b m);
       as-all = λ s l first last bar fit h k. answers first last bar s l fit (below first h) (below last k) ∙ first-of-all first last bar 0 (tableOf s l);

@@ -61,9 +61,14 @@ pub record Searches : Type 0 where
   -- refused by 4, then by 6 where either end is above the last tick; otherwise answered, as `as-all` says
   pub unsound : (s : State) (l : List ℤ) (first last : ℕ) (bar : ℤ) → sound s l ≡ false → searchOutcome s l first last bar ≡ Sought.Refused Refusal.Unsound
   pub above : (s : State) (l : List ℤ) (first last : ℕ) (bar : ℤ) → sound s l ≡ true → 16777215 < max first last → searchOutcome s l first last bar ≡ Sought.Refused Refusal.Tick
+  -- and by nothing else
+  pub answered : (s : State) (l : List ℤ) (first last : ℕ) (bar : ℤ) (r : Refusal) → sound s l ≡ true → first ≤ 16777215 → last ≤ 16777215 → searchOutcome s l first last bar ≡ Sought.Refused r → ⊥
   -- a bucket touches the range exactly when some tick of the range is in it
   pub touched : (first last : ℕ) (b : Bucket) → touches first last b ≡ true → Shares first last b
   pub touching : (first last : ℕ) (b : Bucket) → Shares first last b → touches first last b ≡ true
+  -- and is over exactly when it does and its largest reading is at or above the bar
+  pub over-told : (first last : ℕ) (bar : ℤ) (b : Bucket) → over first last bar b ≡ true → Over first last bar b
+  pub over-telling : (first last : ℕ) (bar : ℤ) (b : Bucket) → Over first last bar b → over first last bar b ≡ true
   -- an index and a start are those of the first bucket that is over; and where there is said to be none, there is none
   pub hits : (s : State) (l : List ℤ) (first last : ℕ) (bar : ℤ) (index start : ℕ) → searchOutcome s l first last bar ≡ Sought.At index start → First first last bar (tableOf s l) index start
   pub misses : (s : State) (l : List ℤ) (first last : ℕ) (bar : ℤ) → searchOutcome s l first last bar ≡ Sought.Nowhere → (b : Bucket) → List·Memᴰ b (tableOf s l) → Over first last bar b → ⊥

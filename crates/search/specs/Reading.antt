@@ -12,3 +12,8 @@ use Rattle.rule.specs.Room.{slot, slotRanged}
 -- a slot is known to be there and to hold a bucket only where no slot before it is over: nothing behind a hit can be read as a bucket
 pub record Readable (first last : ℕ) (bar : ℤ) (l : List ℤ) (n : ℕ) : Type 0 where
   pub slots : (i : ℕ) → i < n → ((j : ℕ) → j < i → over first last bar (slot l j) ≡ false) → (slotWidth * suc i ≤ length l) × (slotRanged l i ≡ true)
+
+-- what is known says nothing of what stands behind a hit: it is as well known of any numbers that are the same up to the hit
+pub record Blind : Type 0 where
+  pub behind : (first last : ℕ) (bar : ℤ) (l m : List ℤ) (n i : ℕ) → over first last bar (slot l i) ≡ true → slotWidth * suc i ≤ length m
+      → ((j : ℕ) → j ≤ i → (slot m j ≡ slot l j) × (slotRanged m j ≡ slotRanged l j)) → Readable first last bar l n → Readable first last bar m n

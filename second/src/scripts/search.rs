@@ -1,7 +1,7 @@
 //! Searches for the first bucket over a bar: every short range of two tables worked by hand, and ranges and bars about the buckets of tables by chance,
-//! few and many, up to the last tick.
+//! few, many and as many as there can be, up to the last tick.
 
-use crate::calls::{MOST_GAPS, MOST_STEPS};
+use crate::calls::{MOST_GAPS, MOST_STEPS, SLOT};
 use crate::command::{Name, Word};
 use crate::rule::{Bucket, Kind, TICKS};
 use crate::script::{wide, Script};
@@ -24,6 +24,10 @@ pub fn write(script: &mut Script) {
     script.heading("# searches of many buckets");
     for _ in 0..LARGE {
         script.search_large();
+    }
+    script.heading("# searches of full tables");
+    for (kind, most) in [(Kind::InOrder, 512), (Kind::Late, 768)] {
+        script.search_full(kind, most);
     }
 }
 
@@ -78,6 +82,26 @@ impl Script {
         }
     }
 
+    /// As many buckets as there can be, each largest reading above all before it, so that a bar picks any of them; late, three to a run. A bucket over
+    /// every bar stands behind the needed slots.
+    fn search_full(&mut self, kind: Kind, most: u64) {
+        self.open_fitting(kind, MOST_STEPS, MOST_GAPS);
+        let reading = |at: u64| Bucket::of_reading(at + (kind as u64) * (at / 3), at as i64);
+        let table: Vec<Bucket> = (0..most).map(reading).collect();
+        self.lay_sound(&table);
+        let needed = self.session.lent;
+        self.room(needed + SLOT);
+        let most = i64::from(i32::MAX);
+        for (at, number) in [1_000_000, 1, most, most].into_iter().enumerate() {
+            self.set(needed + at, number);
+        }
+        for bucket in &table {
+            self.over(0, LAST, bucket.largest as i32);
+            self.over(bucket.start as u32, bucket.start as u32, i32::MIN);
+        }
+        self.over(0, LAST, most as i32);
+    }
+
     fn open_any_kind(&mut self, steps: u64, gaps: u64) {
         let kind = self.random.choice(&[Kind::InOrder, Kind::Late]);
         self.open_fitting(kind, steps, gaps);
@@ -123,7 +147,7 @@ impl Script {
         }
     }
 
-    /// Either end or both above the last tick, and the same of a state that counts a reading too many.
+    /// Either end or both above the last tick, and an empty range; and the same of a state that counts a reading too many.
     fn search_too_far(&mut self, table: &[Bucket]) {
         let near = self.tick_beside(table);
         let far = self.random.choice(&[LAST + 1, LAST + 2, u32::MAX - 1]);
@@ -131,7 +155,15 @@ impl Script {
         let readings = self.session.state.readings;
         for counted in [readings, readings + 1] {
             self.state(Name::Readings, counted);
-            for (first, last) in [(far, near), (near, far), (far, far + 1), (far + 1, far)] {
+            for (first, last) in [
+                (far, near),
+                (near, far),
+                (far, far + 1),
+                (far + 1, far),
+                (near, u32::MAX),
+                (u32::MAX, near),
+                (near + 1, near),
+            ] {
                 self.over(first, last, bar);
             }
         }

@@ -8,7 +8,7 @@ use crate::rule::{self, Kind, TICKS};
 use crate::script::Script;
 use crate::session::NUMBERS;
 
-/// So many states and rooms for each clause, and nine calls of each.
+/// So many states and rooms for each clause, and ten calls of each.
 const OF_EACH: usize = 60;
 const TRIES: usize = 10_000;
 
@@ -130,6 +130,7 @@ impl Script {
         self.lookup(0);
         // The first bucket would be a hit, if it were answered before all is looked at.
         self.over(0, TICKS as u32 - 1, i32::MIN);
+        self.over(1, 0, i32::MIN);
         self.worst();
         self.row(used);
         self.save(16 * used);

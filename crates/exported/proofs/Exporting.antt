@@ -40,7 +40,8 @@ use Rattle.over.proofs.Searching as searching
 use Rattle.worst.specs.declared.Measured.{Measured}
 use Rattle.worst.specs.Outcome.{measured, worstOutcome}
 use Rattle.saved.proofs.RoundTrips.{loaded-saved, saved-loaded}
-use Rattle.demands.specs.History.{Reading, arrived}
+use Rattle.demands.specs.History.{Reading, arrived, tableAfter}
+use Rattle.demands.specs.Served.{Inside}
 use Rattle.plain.specs.declared.Counted.{Counted}
 use Rattle.fields.specs.declared.Fields.{Fields}
 use Rattle.fields.specs.declared.Named.{Named}
@@ -305,12 +306,12 @@ module _ {g : Settings} {rs : List Reading} {s : State} {l : List ℤ} (k : Uphe
       absurd (f b (w .1) (record { shares = record { tick = r .tick; from-first = low; to-last = high; from-start = inside .0; before-end = inside .1 }; reaches = reaches })))
       (λ e. e)
 
-  some-over : {index start : ℕ} → First first last bar (tableOf s l) index start → (r : Reading) × List·Memᴰ r rs × (start ≤ r .tick) × (leZ bar (r .value) ≡ true)
+  some-over : {index start : ℕ} → First first last bar (tableOf s l) index start
+      → (b : Bucket) × List·Memᴰ b (tableAfter (kept g) rs) × (b .start ≡ start) × Inside rs b (b .largest) × (leZ bar (b .largest) ≡ true)
   some-over w =
       let b = w .hit .bucket in
       let m : List·Memᴰ b (tableOf s l) = subst (List·Memᴰ b) (sym (w .hit .stands)) (Memᴰ·append-right (w .hit .front) (List·Memᴰ·head refl)) in
-      let i = k .extremes b m .largest in
-      (record { tick = i .tick; value = b .largest }, i .arrived, omega (arith, held-within (i .tick) b (i .held), w .hit .begins), w .hit .over .reaches)
+      (b, subst (List·Memᴰ b) (k .buckets) m, sym (w .hit .begins), k .extremes b m .largest, w .hit .over .reaches)
 
 -- ---- demands 2 and 3
 

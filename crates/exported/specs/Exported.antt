@@ -22,7 +22,7 @@ use Rattle.over.specs.Promise.{First, Over, allOver, answerOf}
 use Rattle.demands.specs.Curve as curve
 use Rattle.demands.specs.Curve.{Curve}
 use Rattle.demands.specs.History.{Reading, arrived, runsOf, tableAfter}
-use Rattle.demands.specs.Served.{Near}
+use Rattle.demands.specs.Served.{Inside, Near}
 use Rattle.plain.specs.declared.Counted.{Counted}
 use Rattle.fields.specs.declared.Fields.{Fields}
 use Rattle.fields.specs.declared.Named.{Named}
@@ -177,9 +177,9 @@ pub record Promised (named : Named) (rs : List Reading) (f : Fields) (l : List �
       → lookupReply f l tick ≡ record { refusal = 0; place = 0; level = level b; error = error b; least = b .least; largest = b .largest }
   -- ndz_first_over answers as whoever reads all the buckets of the rule
   pub searches : (first last : ℕ) (bar : ℤ) → first ≤ 16777215 → last ≤ 16777215 → searchReply f l first last bar ≡ pointing (answerOf (allOver first last bar 0 (bucketsOf named rs)))
-  -- what that says of the readings: where it finds none, no accepted reading at a tick of the range is at or above the bar; where it finds one, some accepted reading from its start on is
+  -- what that says of the readings: where it finds none, no accepted reading at a tick of the range is at or above the bar; where it finds one, it is a bucket of the rule, and its largest reading, accepted at a tick inside it, is at or above the bar
   pub none-over : (first last : ℕ) (bar : ℤ) → let h = searchReply f l first last bar in h .refusal ≡ 0 → h .found ≡ 0 → (r : Reading) → List·Memᴰ r rs → first ≤ r .tick → r .tick ≤ last → leZ bar (r .value) ≡ false
-  pub some-over : (first last : ℕ) (bar : ℤ) → let h = searchReply f l first last bar in h .found ≡ 1 → (r : Reading) × List·Memᴰ r rs × (h .start ≤ r .tick) × (leZ bar (r .value) ≡ true)
+  pub some-over : (first last : ℕ) (bar : ℤ) → let h = searchReply f l first last bar in h .found ≡ 1 → (b : Bucket) × List·Memᴰ b (bucketsOf named rs) × (b .start ≡ h .start) × Inside rs b (b .largest) × (leZ bar (b .largest) ≡ true)
   -- ndz_lookup shows exactly the ticks of the accepted readings: any other is refused, above the last tick by 6 and else by 12
   pub covers : (tick : ℕ) → lookupReply f l tick .refusal ≡ cond (arrived tick rs) 0 (cond (leb 16777216 tick) 6 12)
 

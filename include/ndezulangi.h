@@ -167,9 +167,11 @@ ndz_found ndz_lookup(ndz_state state, const int64_t *room, size_t numbers, uint3
 
 /* The first bucket that holds a tick from `first` to `last`, both included, and whose largest reading is at or above `bar`.
  * A bucket partly in the range counts with its whole largest reading, so its start may lie before `first`, and the reading
- * at or above `bar` may be of one of its ticks outside the range; where none is found, no reading of the range is at or
- * above `bar`. A range with `first` above `last` has none. The index counts the buckets of the trace from 0, as ndz_row
- * writes them, not those of the range. Writes nothing.
+ * at or above `bar` may be of one of its ticks outside the range. Where the call is not refused and none is found,
+ * ndz_lookup shows no largest reading at or above `bar` at any tick of the range; and in a trace that was opened empty, also
+ * where it was saved and loaded again with its settings, no accepted reading of the range is at or above `bar`. A range with
+ * `first` above `last` has none. The index counts the buckets of the trace from 0, as ndz_row writes them, not those of the
+ * range. Writes nothing.
  * Refuses: NDZ_UNSOUND, NDZ_TICK (either end is above NDZ_LAST_TICK, of an empty range too). */
 ndz_hit ndz_first_over(ndz_state state, const int64_t *room, size_t numbers, uint32_t first, uint32_t last, int32_t bar);
 

@@ -168,11 +168,27 @@ module _ (t : Table) (first last : ℕ) (bar : ℤ) where
   zeros Sought.Nowhere e = (refl, refl)
   zeros (Sought.Refused r) e = (refl, refl)
 
+shown-low : (tick first last : ℕ) (bar : ℤ) (t : Table) → ((b : Bucket) → List·Memᴰ b t → Over first last bar b → ⊥) → first ≤ tick → tick ≤ last → showing (found (holding tick t)) .refusal ≡ 0 → leZ bar (showing (found (holding tick t)) .largest) ≡ false
+unfolding showing found holding
+shown-low tick first last bar [] f low high = λ z. absurd (omega (arith, z))
+shown-low tick first last bar (b ∷ t) f low high =
+    by-test (holds tick b)
+    (λ h. rw h (λ z. by-test (leZ bar (b .largest)) (λ e. let inside = held-within tick b h in absurd (f b (List·Memᴰ·head refl) (record { shares = record { tick = tick; from-first = low; to-last = high; from-start = inside .0; before-end = inside .1 }; reaches = e }))) (λ e. e)))
+    (λ h. rw h (shown-low tick first last bar t (λ c m. f c (List·Memᴰ·tail m)) low high))
+
+none-shown : (f : Fields) (l : List ℤ) (first last : ℕ) (bar : ℤ) (tick : ℕ) → ((b : Bucket) → List·Memᴰ b (tableOf (stateFrom f) l) → Over first last bar b → ⊥) → first ≤ tick → tick ≤ last → lookupReply f l tick .refusal ≡ 0 → leZ bar (lookupReply f l tick .largest) ≡ false
+unfolding showing lookupOutcome foundOf checked
+none-shown f l first last bar tick g low high =
+    by-test (sound (stateFrom f) l)
+    (λ fit. by-test (leb ticks tick) (λ h. rw (fit, h) (λ z. absurd (omega (arith, z)))) (λ h. rw (fit, h) (shown-low tick first last bar (tableOf (stateFrom f) l) g low high)))
+    (λ fit. rw fit (λ z. absurd (omega (arith, z))))
+
 pub exported-search : ExportedSearch
 exported-search = record {
   one-or-none = λ f l first last bar. one-or-none (tableOf (stateFrom f) l) first last bar (searchOutcome (stateFrom f) l first last bar);
   hits = λ f l first last bar. let s = stateFrom f in hits (tableOf s l) first last bar (searchOutcome s l first last bar) (searching.searches .hits s l first last bar);
   misses = λ f l first last bar. let s = stateFrom f in misses (tableOf s l) first last bar (searchOutcome s l first last bar) (searching.searches .misses s l first last bar);
+  none-shown = λ f l first last bar z e tick low high. none-shown f l first last bar tick (misses (tableOf (stateFrom f) l) first last bar (searchOutcome (stateFrom f) l first last bar) (searching.searches .misses (stateFrom f) l first last bar) z e) low high;
   zeros = λ f l first last bar. zeros (tableOf (stateFrom f) l) first last bar (searchOutcome (stateFrom f) l first last bar);
 }
 
@@ -307,11 +323,11 @@ module _ {g : Settings} {rs : List Reading} {s : State} {l : List ℤ} (k : Uphe
       (λ e. e)
 
   some-over : {index start : ℕ} → First first last bar (tableOf s l) index start
-      → (b : Bucket) × List·Memᴰ b (tableAfter (kept g) rs) × (b .start ≡ start) × Inside rs b (b .largest) × (leZ bar (b .largest) ≡ true)
-  some-over w =
+      → (w : First first last bar (tableAfter (kept g) rs) index start) × Inside rs (w .hit .bucket) (w .hit .bucket .largest)
+  some-over {index} {start} w =
       let b = w .hit .bucket in
       let m : List·Memᴰ b (tableOf s l) = subst (List·Memᴰ b) (sym (w .hit .stands)) (Memᴰ·append-right (w .hit .front) (List·Memᴰ·head refl)) in
-      (b, subst (List·Memᴰ b) (k .buckets) m, sym (w .hit .begins), k .extremes b m .largest, w .hit .over .reaches)
+      (record { hit = record { front = w .hit .front; bucket = b; back = w .hit .back; stands = sym (k .buckets) ∙ w .hit .stands; counted = w .hit .counted; begins = w .hit .begins; over = w .hit .over }; none-before = w .none-before }, k .extremes b m .largest)
 
 -- ---- demands 2 and 3
 

@@ -108,6 +108,9 @@ pub record ExportedSearch : Type 0 where
   pub hits : (f : Fields) (l : List ℤ) (first last : ℕ) (bar : ℤ) → let h = searchReply f l first last bar in h .found ≡ 1 → First first last bar (tableOf (stateFrom f) l) (h .index) (h .start)
   -- where it is 0 and the call is not refused, there is none, and the other numbers are 0
   pub misses : (f : Fields) (l : List ℤ) (first last : ℕ) (bar : ℤ) → let h = searchReply f l first last bar in h .refusal ≡ 0 → h .found ≡ 0 → (b : Bucket) → List·Memᴰ b (tableOf (stateFrom f) l) → Over first last bar b → ⊥
+  -- of any trace, loaded from bytes from anywhere too: at no tick of the range does ndz_lookup show a largest reading at or above the bar
+  pub none-shown : (f : Fields) (l : List ℤ) (first last : ℕ) (bar : ℤ) → let h = searchReply f l first last bar in h .refusal ≡ 0 → h .found ≡ 0
+      → (tick : ℕ) → first ≤ tick → tick ≤ last → let s = lookupReply f l tick in s .refusal ≡ 0 → leZ bar (s .largest) ≡ false
   pub zeros : (f : Fields) (l : List ℤ) (first last : ℕ) (bar : ℤ) → let h = searchReply f l first last bar in h .found ≡ 0 → (h .index ≡ 0) × (h .start ≡ 0)
 
 -- ---- demands 2 and 3
@@ -177,9 +180,9 @@ pub record Promised (named : Named) (rs : List Reading) (f : Fields) (l : List �
       → lookupReply f l tick ≡ record { refusal = 0; place = 0; level = level b; error = error b; least = b .least; largest = b .largest }
   -- ndz_first_over answers as whoever reads all the buckets of the rule
   pub searches : (first last : ℕ) (bar : ℤ) → first ≤ 16777215 → last ≤ 16777215 → searchReply f l first last bar ≡ pointing (answerOf (allOver first last bar 0 (bucketsOf named rs)))
-  -- what that says of the readings: where it finds none, no accepted reading at a tick of the range is at or above the bar; where it finds one, it is a bucket of the rule, and its largest reading, accepted at a tick inside it, is at or above the bar
+  -- what that says of the readings: where it finds none, no accepted reading at a tick of the range is at or above the bar; where it finds one, it is the first such bucket of the rule, and its largest reading was accepted at a tick inside it
   pub none-over : (first last : ℕ) (bar : ℤ) → let h = searchReply f l first last bar in h .refusal ≡ 0 → h .found ≡ 0 → (r : Reading) → List·Memᴰ r rs → first ≤ r .tick → r .tick ≤ last → leZ bar (r .value) ≡ false
-  pub some-over : (first last : ℕ) (bar : ℤ) → let h = searchReply f l first last bar in h .found ≡ 1 → (b : Bucket) × List·Memᴰ b (bucketsOf named rs) × (b .start ≡ h .start) × Inside rs b (b .largest) × (leZ bar (b .largest) ≡ true)
+  pub some-over : (first last : ℕ) (bar : ℤ) → let h = searchReply f l first last bar in h .found ≡ 1 → (w : First first last bar (bucketsOf named rs) (h .index) (h .start)) × Inside rs (w .hit .bucket) (w .hit .bucket .largest)
   -- ndz_lookup shows exactly the ticks of the accepted readings: any other is refused, above the last tick by 6 and else by 12
   pub covers : (tick : ℕ) → lookupReply f l tick .refusal ≡ cond (arrived tick rs) 0 (cond (leb 16777216 tick) 6 12)
 

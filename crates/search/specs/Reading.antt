@@ -9,7 +9,7 @@ use Rattle.over.specs.Search.{over}
 use Rattle.rule.specs.Numbers.{slotWidth}
 use Rattle.rule.specs.Room.{slot, slotRanged}
 
--- a slot is known to be there and to hold a bucket only where no slot before it is over: nothing behind a hit can be read as a bucket
+-- a slot is known to be there, with numbers that fit a bucket's fields, only where no slot before it is over: nothing behind a hit can be read as a bucket
 pub record Readable (first last : ℕ) (bar : ℤ) (l : List ℤ) (n : ℕ) : Type 0 where
   pub slots : (i : ℕ) → i < n → ((j : ℕ) → j < i → over first last bar (slot l j) ≡ false) → (slotWidth * suc i ≤ length l) × (slotRanged l i ≡ true)
 

@@ -13,20 +13,9 @@ use Rattle.rule.specs.Calls.{Check, Verdict, checked, refused, accepted, admitt
 use Rattle.rule.specs.Numbers.{slotWidth}
 use Rattle.rule.specs.Room.{gapsGood, roomy, stepsGood}
 use Rattle.rule.specs.Table.{Table, needed}
-use Rattle.rule.proofs.Whole.{cond-ind}
+use Rattle.rule.proofs.Checks.{Unrefused, past-checks}
 use Rattle.admission.specs.declared.Admitted.{Admitted}
 use Rattle.admission.specs.Admission.{admission}
-
--- no test holds
-unfoldable pub Unrefused : List Check → Type 0
-Unrefused [] = Unit {0}
-Unrefused (c ∷ l) = (c .0 ≡ false) × Unrefused l
-
--- what holds of every refusal, and of what comes after where no test holds, holds of both
-pub past-checks : {A : Type 0} (P : Verdict A → Type 0) → ((r : Refusal) → P (refused r)) → (l : List Check) (v : Verdict A) → (Unrefused l → P v) → P (checked l v)
-unfolding checked Unrefused
-past-checks P refuses [] v f = f tt
-past-checks P refuses (c ∷ l) v f = cond-ind (c .0) _ _ P (λ _. refuses (c .1)) (λ e. past-checks P refuses l v (λ k. f (e, k)))
 
 -- ---- settings and room that are admitted
 

@@ -4,7 +4,6 @@ use mathlib.Core.Path.{_≡_, refl, sym, ap, _∙_, subst}
 use mathlib.Core.Bool.{Bool, true, false, _&&_, true≢false, false≢true}
 use mathlib.Core.List.{List, [], _∷_}
 use native.Mathlib.Nat.{add-zero}
-use native.Mathlib.Numerals.{add-one}
 use native.Mathlib.Omega.{arith}
 use borrow.Author.Tests.{eq-eqb, eqb-true, le-leb, leb-true}
 use lib.IntN.{ℤ, pos, negsuc, natAbs}
@@ -19,14 +18,14 @@ use Rattle.rule.specs.declared.Kind.the-variants.{InOrder, Late}
 use Rattle.rule.specs.declared.State.{State}
 use Rattle.rule.specs.Bucket.{end}
 use Rattle.rule.specs.Calls.{late}
-use Rattle.rule.specs.Numbers.{half, most, slotWidth, word}
-use Rattle.rule.specs.Room.{allZero, field, gapsBounded, gapsGood, ranged, restZero, runsAllowed, signed, slot, slotRanged, slots, sound, stepsGood, tableOf, unsigned, within}
+use Rattle.rule.specs.Numbers.{most, slotWidth}
+use Rattle.rule.specs.Room.{allZero, field, gapsBounded, gapsGood, ranged, restZero, runsAllowed, signed, slot, slotRanged, slots, sound, stepsGood, tableOf, unsigned}
 use Rattle.rule.specs.Rules.{equal}
-use Rattle.rule.specs.Table.{Table, limit, needed, readings, runs}
-use Rattle.rule.proofs.Ruling.{Meets, Ruled, and-both, and-left, and-right}
+use Rattle.rule.specs.Table.{Table, needed, readings, runs}
+use Rattle.rule.proofs.Ruling.{Ruled, and-both, and-left, and-right}
 use Rattle.rule.proofs.Signed.{equal-same, fits-signed, fits-unsigned, signed-fits, unsigned-fits}
 use Rattle.rule.proofs.Whole as wholes
-use Rattle.room.proofs.Sounding.{Facts, facts-sound, sound-facts, used-needed}
+use Rattle.room.proofs.Sounding.{facts-sound, sound-facts}
 use Rattle.settings.proofs.Bounds.{steps-bounds}
 use Rattle.slots.proofs.Laying.{length-slots}
 use Rattle.answered.specs.Answered.{slotsNeeded}

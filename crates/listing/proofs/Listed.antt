@@ -1,5 +1,5 @@
 -- Read byte by byte or in pieces, what is shown is the listing of the whole input.
-use Prim.Native.Nat.{ℕ, suc, _+_, _*_, _%_, _^_, _≤_, _<_}
+use Prim.Native.Nat.{ℕ, suc, _+_, _%_, _^_, _≤_, _<_}
 use mathlib.Core.Path.{_≡_, refl, sym, ap, _∙_, subst}
 use mathlib.Core.Bool.{true, false}
 use mathlib.Core.List.{List, [], _∷_, _++_, append-assoc}
@@ -9,7 +9,7 @@ use borrow.Author.Tests.{eqb-true, eqb-false, le-leb, ltb-true, ltb-false}
 use lib.Dec.{eqb, ltb}
 use lib.IntN.{ℤ, pos}
 use lib.ListN.{length, replicate, set, take, length-append, length-replicate, length-set, length-take}
-use lib.Seq.{append-snoc, length-take-le, take-suc-set}
+use lib.Seq.{length-take-le, take-suc-set}
 use Rattle.rule.specs.declared.Refusal.{Refusal}
 use Rattle.rule.specs.declared.State.{State}
 use Rattle.rule.specs.Numbers.{ticks}
@@ -22,14 +22,13 @@ use Rattle.trace.specs.declared.Answer.{Answer}
 use Rattle.trace.specs.declared.Answer.the-variants.{Accepted, Refused}
 use Rattle.trace.specs.declared.Trace.{Trace}
 use Rattle.notation.specs.Signs.{lineFeed}
-use Rattle.notation.specs.Printing.{lineRoom}
 use Rattle.notation.specs.declared.Line.{Line}
 use Rattle.notation.specs.Reading.{lineMost, lineOf}
 use Rattle.notation.proofs.Ranges.{line-ranged, too-long-line}
 use Rattle.listing.specs.declared.Feeding.{Feeding}
 use Rattle.listing.specs.declared.Stage.{Stage}
 use Rattle.listing.specs.Listing.{Standing, begun, defaultSteps, inOrder, lines, obeyed, output, read, readAll, roomSize, shown, stageAfter}
-use Rattle.listing.specs.Feeding.{Listable, Reader, Showable, byteFed, fed, fresh, lengthened, lineEnded, lineFed, outputRoom, restFed, tooLong}
+use Rattle.listing.specs.Feeding.{Reader, Showable, byteFed, fed, fresh, lengthened, lineEnded, lineFed, outputRoom, restFed, tooLong}
 use Rattle.listing.specs.Lists.{Lists, atEnd, fedAll, joined, start, written}
 use Rattle.listing.proofs.Pieces.{fed-append}
 use Rattle.listing.proofs.Splitting.{Unbroken, lines-ended, lines-longer, lines-rest, unbroken-append}

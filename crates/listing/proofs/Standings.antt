@@ -1,15 +1,15 @@
 -- While no line is refused the trace is sound, and the lines are the readings and two headers at most.
 use Prim.Native.Nat.{ℕ, suc, _+_, _≤_, _<_}
 use mathlib.Core.Path.{_≡_, ap}
-use mathlib.Core.Bool.{true, false}
-use mathlib.Core.List.{List, []}
+use mathlib.Core.Bool.{true}
+use mathlib.Core.List.{List}
 use native.Mathlib.Omega.{arith}
 use lib.IntN.{ℤ}
 use mir.Syntax.{w32}
 use mir.Val.{SFits}
 use Rattle.rule.specs.declared.Settings.{Settings}
 use Rattle.rule.specs.declared.State.{State}
-use Rattle.rule.specs.Calls.{Verdict, accepted, kept, late, opened, refused, stateOf, traced}
+use Rattle.rule.specs.Calls.{Verdict, accepted, kept, late, opened, refused, traced}
 use Rattle.rule.specs.Numbers.{ticks, word}
 use Rattle.rule.specs.Room.{sound, tableOf}
 use Rattle.rule.specs.Table.{Table, accept, readings}
@@ -20,7 +20,7 @@ use Rattle.room.proofs.Sounding.{sound-facts, sound-readings}
 use Rattle.room.proofs.Taking.{taken-sound, taken-state}
 use Rattle.trace.specs.declared.Answer.{Answer}
 use Rattle.trace.specs.declared.Answer.the-variants.{Accepted, Refused}
-use Rattle.trace.specs.Answers.{answer, answered}
+use Rattle.trace.specs.Answers.{answer}
 use Rattle.trace.specs.Left.{LeavesSound, LeftBy}
 use Rattle.trace.proofs.Leaving.{late-either, next-either, open-either, open-leaves}
 use Rattle.notation.specs.declared.Line.{Line}

@@ -8,7 +8,6 @@ use Rattle.rule.specs.declared.Kind.the-variants.{InOrder}
 use Rattle.rule.specs.Calls.{opened}
 use Rattle.rule.specs.Room.{zeros}
 use Rattle.trace.specs.Answers.{answered}
-use Rattle.notation.specs.Printing.{lineRoom}
 use Rattle.notation.specs.Reading.{lineMost}
 use Rattle.listing.specs.declared.Feeding.{Feeding}
 use Rattle.listing.specs.declared.Stage.{Stage}

@@ -35,7 +35,7 @@ use Rattle.settings.proofs.Bounds.{steps-bounds}
 use Rattle.trace.specs.Left.{LeavesSound, LeftBy}
 use Rattle.saved.proofs.Filing.{save-writes}
 use Rattle.saved.proofs.RoundTrips.{loaded-saved, saved-accepted, saved-loaded, saved-loaded-slots}
-use Rattle.trace.proofs.Arriving.{late-free}
+use Rattle.arrival.proofs.Arriving.{late-free}
 use Rattle.trace.proofs.Leaving.{late-either, late-leaves, next-either, next-leaves, open-either, open-leaves}
 use Rattle.demands.specs.History.{Accepted, Reading, Takes, arrived, runsOf, tableAfter}
 use Rattle.demands.specs.Served.{Served}

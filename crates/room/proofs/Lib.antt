@@ -3,4 +3,5 @@ pub mod Merges
 pub mod Placing
 pub mod Sounding
 pub mod Taking
+pub mod Finding
 pub mod OneOutcome

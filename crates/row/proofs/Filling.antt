@@ -2,7 +2,7 @@
 use Prim.Native.Nat.{ℕ, suc, _+_, _*_, _≤_, _<_}
 use mathlib.Core.Path.{_≡_, refl, sym, _∙_}
 use mathlib.Core.Bool.{true}
-use mathlib.Core.List.{List, _++_}
+use mathlib.Core.List.{List}
 use native.Mathlib.Omega.{arith}
 use borrow.Author.Tests.{ltb-false, not-false}
 use lib.IntN.{ℤ}
@@ -16,7 +16,7 @@ use Rattle.rule.specs.Room.{slot, slotRanged, slots, sound, tableOf}
 use Rattle.rule.specs.Table.{Table}
 use Rattle.slots.proofs.Laying.{length-slots, slots-split}
 use Rattle.slots.proofs.Reading.{filled}
-use Rattle.admission.proofs.Granting.{Unrefused, past-checks}
+use Rattle.rule.proofs.Checks.{Unrefused, past-checks}
 use Rattle.room.proofs.Sounding.{sound-facts, sound-filled}
 use Rattle.row.specs.Answers.{answer, number, rowAnswer, upTo}
 

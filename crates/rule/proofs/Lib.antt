@@ -1,5 +1,6 @@
 -- Laws that belong to no one function.
 pub mod Whole
+pub mod Checks
 pub mod Errors
 pub mod Tables
 pub mod Merging

@@ -79,13 +79,15 @@ opened s l = traced (kept s) l (admitted (kept s) l (accepted []))
 
 -- ---- readings: 4, 5, 6, 11, 9
 
-unfoldable pub nextVerdict : State → List ℤ → ℤ → Verdict Table
-nextVerdict s l v =
-    checked
-    ((not (sound s l), Refusal.Unsound)
+abbrev pub nextChecks : State → List ℤ → List Check
+nextChecks s l =
+    (not (sound s l), Refusal.Unsound)
     ∷ (late (s .settings .kind), Refusal.Kind)
     ∷ (leb ticks (nextTick (tableOf s l)), Refusal.Tick)
-    ∷ []) (accepted (accept (s .settings) (tableOf s l) (nextTick (tableOf s l)) v))
+    ∷ []
+
+unfoldable pub nextVerdict : State → List ℤ → ℤ → Verdict Table
+nextVerdict s l v = checked (nextChecks s l) (accepted (accept (s .settings) (tableOf s l) (nextTick (tableOf s l)) v))
 
 abbrev pub nextOutcome : State → List ℤ → ℤ → Verdict State × List ℤ
 nextOutcome s l v = traced (s .settings) l (nextVerdict s l v)
@@ -94,15 +96,17 @@ unfoldable pub isHeld : Option Bucket → Bool
 isHeld none = false
 isHeld (some b) = true
 
-unfoldable pub lateVerdict : State → List ℤ → ℕ → ℤ → Verdict Table
-lateVerdict s l tick v =
-    checked
-    ((not (sound s l), Refusal.Unsound)
+abbrev pub lateChecks : State → List ℤ → ℕ → ℤ → List Check
+lateChecks s l tick v =
+    (not (sound s l), Refusal.Unsound)
     ∷ (not (late (s .settings .kind)), Refusal.Kind)
     ∷ (leb ticks tick, Refusal.Tick)
     ∷ (isHeld (holding tick (tableOf s l)), Refusal.Taken)
     ∷ (ltb (s .settings .gaps) (runs (insert (single tick v) (tableOf s l))), Refusal.Runs)
-    ∷ []) (accepted (accept (s .settings) (tableOf s l) tick v))
+    ∷ []
+
+unfoldable pub lateVerdict : State → List ℤ → ℕ → ℤ → Verdict Table
+lateVerdict s l tick v = checked (lateChecks s l tick v) (accepted (accept (s .settings) (tableOf s l) tick v))
 
 abbrev pub lateOutcome : State → List ℤ → ℕ → ℤ → Verdict State × List ℤ
 lateOutcome s l tick v = traced (s .settings) l (lateVerdict s l tick v)

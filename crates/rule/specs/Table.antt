@@ -2,7 +2,7 @@
 -- Source 003 merges where its Algorithm 1 tests "at least" the limit, changes k only while the table is full and has no tie rule; here, as 01 decides:
 -- "more than" the limit, k always the number of runs, and the lowest start.
 use Prim.Native.Nat.{ℕ, zero, suc, _+_, _*_, _≤_, max}
-use mathlib.Core.Bool.{Bool, true, cond, _&&_}
+use mathlib.Core.Bool.{Bool, cond, _&&_}
 use mathlib.Core.List.{List, [], _∷_}
 use mathlib.Core.Option.{Option, some, none}
 use lib.Dec.{eqb, leb, ltb}

@@ -11,18 +11,17 @@ use lib.ListN.{length, take, drop, length-append, length-drop}
 use lib.Seq.{drop-append-add, drop-drop, take-at}
 use Rattle.faults.specs.declared.Contents.{Contents}
 use Rattle.rule.specs.declared.Bucket.{Bucket}
-use Rattle.rule.specs.declared.Kind.{Kind}
 use Rattle.rule.specs.declared.Refusal.{Refusal}
 use Rattle.rule.specs.declared.Settings.{Settings}
 use Rattle.rule.specs.declared.State.{State}
 use Rattle.rule.specs.declared.Written.{Written}
 use Rattle.rule.specs.Bytes.{recordAt, records, recordsOf, saved}
 use Rattle.rule.specs.Calls.{Verdict, checked, refused, accepted, fileVerdict, kept, loaded, saveOutcome, stateOf, traced, writeVerdict, wrote}
-use Rattle.rule.specs.Numbers.{recordWidth, slotWidth, ticks}
+use Rattle.rule.specs.Numbers.{recordWidth, slotWidth}
 use Rattle.rule.specs.Room.{flat, laid, runsAllowed, slot, slots, sound, tableOf, zeros}
 use Rattle.rule.specs.Rules.{ruled}
 use Rattle.rule.specs.Table.{Table, limit, needed, readings, runs}
-use Rattle.rule.proofs.Ruling.{Ruled, facts-ruled, ordered-readings, ruled-end, ruled-facts, ruled-ordered}
+use Rattle.rule.proofs.Ruling.{Ruled, facts-ruled, ruled-facts}
 use Rattle.record.specs.Files as files
 use Rattle.faults.proofs.Faults.{length-records}
 use Rattle.record.proofs.RoundTrip.{length-saved, put-saved}
@@ -30,7 +29,8 @@ use Rattle.slots.specs.Slots.{put}
 use Rattle.slots.proofs.Shifting.{drop-past}
 use Rattle.settings.proofs.Bounds.{limit-gaps}
 use Rattle.slots.proofs.Laying.{flat-append, length-flat, length-slots, slots-split}
-use Rattle.admission.proofs.Granting.{Granted, Unrefused, admits, past-admission, past-checks}
+use Rattle.admission.proofs.Granting.{Granted, admits, past-admission}
+use Rattle.rule.proofs.Checks.{Unrefused, past-checks}
 use Rattle.faults.specs.declared.Inspected.{Inspected}
 use Rattle.faults.specs.Verdicts.{inspection}
 

@@ -4,7 +4,6 @@ use mathlib.Core.Path.{_≡_, refl}
 use mathlib.Core.Bool.{true, false}
 use mathlib.Core.List.{List, []}
 use native.Mathlib.Omega.{arith}
-use borrow.Author.Tests.{leb-false, ltb-false, not-false}
 use lib.IntN.{ℤ}
 use mir.Syntax.{w32}
 use mir.Val.{SFits}
@@ -14,18 +13,18 @@ use Rattle.rule.specs.declared.Refusal.{Refusal}
 use Rattle.rule.specs.declared.Settings.{Settings}
 use Rattle.rule.specs.declared.State.{State}
 use Rattle.rule.specs.Calls.{Verdict, accepted, admitted, isHeld, kept, late, lateOutcome, lateVerdict, nextOutcome, nextVerdict, opened, refused, traced}
-use Rattle.rule.specs.Numbers.{ticks, word}
+use Rattle.rule.specs.Numbers.{word}
 use Rattle.rule.specs.Room.{runsAllowed, tableOf}
 use Rattle.rule.specs.Table.{Table, accept, holding, nextTick, runs}
 use Rattle.rule.proofs.Fitting.{Fitted}
 use Rattle.rule.proofs.Ruling.{Ruled}
 use Rattle.room.specs.Steps.{position}
 use Rattle.room.proofs.Sounding.{facts-sound, laid-facts}
-use Rattle.admission.proofs.Granting.{Granted, Unrefused, past-admission, past-checks}
+use Rattle.admission.proofs.Granting.{Granted, past-admission}
 use Rattle.trace.specs.Left.{LeavesSound, LeftBy}
 use Rattle.room.specs.Steps.{Ready, with}
-use Rattle.trace.proofs.Arriving.{Passed, late-ready}
-use Rattle.trace.proofs.Following.{next-ready}
+use Rattle.arrival.proofs.Arriving.{Passed}
+use Rattle.arrival.proofs.Passing.{late-passed, next-passed}
 use Rattle.room.proofs.Taking.{taken-sound}
 
 -- the outcome of a verdict leaves a sound trace
@@ -61,22 +60,14 @@ taken-leaves s l at k tick v r fits small = taken-sound s l at k tick v r fits s
 module _ (s : State) (l : List ℤ) (v : ℤ) (P : Verdict Table → Type 0) (no : (r : Refusal) → P (refused r)) where
   pub next-either : (late (s .settings .kind) ≡ false → Ready s l (s .used) 1 (nextTick (tableOf s l)) v → nextTick (tableOf s l) < word → P (accepted (accept (s .settings) (tableOf s l) (nextTick (tableOf s l)) v)))
       → P (nextVerdict s l v)
-  unfolding nextVerdict Unrefused
-  next-either takes =
-      past-checks P no _ _ (λ p.
-      let inside : nextTick (tableOf s l) < ticks = leb-false ticks (nextTick (tableOf s l)) (p .1 .1 .0) in
-      takes (p .1 .0) (next-ready s l v (not-false _ (p .0)) (p .1 .0) inside) (omega arith))
+  unfolding nextVerdict
+  next-either = next-passed s l v P no _
 
   pub late-either : (tick : ℕ)
       → (Passed s l tick → isHeld (holding tick (tableOf s l)) ≡ false → Ready s l (position tick (tableOf s l)) (runs (with s l tick v)) tick v → tick < word → P (accepted (accept (s .settings) (tableOf s l) tick v)))
       → P (lateVerdict s l tick v)
-  unfolding lateVerdict Unrefused
-  late-either tick takes =
-      past-checks P no _ _ (λ p.
-      let free = p .1 .1 .1 .0 in
-      let inside : tick < ticks = leb-false ticks tick (p .1 .1 .0) in
-      let fit : Passed s l tick = record { fit = not-false _ (p .0); kind = not-false _ (p .1 .0); small = inside } in
-      takes fit free (late-ready fit free refl refl (ltb-false (s .settings .gaps) (runs (with s l tick v)) (p .1 .1 .1 .1 .0))) (omega arith))
+  unfolding lateVerdict
+  late-either tick = late-passed s l v P no _ tick
 
 pub next-leaves : (s : State) (l : List ℤ) (v : ℤ) → SFits w32 v → LeavesSound (nextOutcome s l v)
 next-leaves s l v fits = next-either s l v (Leaves (s .settings) l) (refused-leaves (s .settings) l) (λ _ r small. taken-leaves s l _ _ _ v r fits small)

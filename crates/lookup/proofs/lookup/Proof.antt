@@ -1,4 +1,4 @@
--- `trace::Trace::lookup` meets its contract: each return is its case of the outcome.
+-- `lookup::lookup` meets its contract: each return is its case of the outcome.
 use borrow.Author.Needs.{needs}
 use borrow.Author.Tests.{le-leb, lt-leb}
 use native.Mathlib.Omega.{arith}
@@ -14,26 +14,26 @@ use Rattle.room.proofs.Placing.{filled-before}
 use Rattle.slots.proofs.Reading.{filled}
 use Rattle.room.proofs.Sounding.{sound-facts, sound-filled}
 use Rattle.rule.proofs.Ruling.{flipped}
-use Rattle.trace.proofs.Finding.{before-holds, not-held, past-first, sound-placed}
-use Rattle.trace.proofs.Trace.lookup.Statement.{statement}
-use Rattle.trace.proofs.Trace.lookup.Tie as tie
+use Rattle.room.proofs.Finding.{before-holds, not-held, past-first, sound-placed}
+use Rattle.lookup.proofs.lookup.Statement.{statement}
+use Rattle.lookup.proofs.lookup.Tie as tie
 
 -- past the first test the trace is sound, past the second the tick is in range
-whole : (c : tie.Else1) → sound (c .before .before .before .args .self .state) (c .before .before .before .args .room .now) ≡ true
+whole : (c : tie.Else1) → sound (c .before .before .args .s) (c .before .before .args .room .now) ≡ true
 whole c = flipped (c .before .sound .ensures) (c .if1 .left)
 
-in-range : (c : tie.Else2) → leb ticks (c .before .before .before .before .args .tick) ≡ false
-in-range c = lt-leb ticks (c .before .before .before .before .args .tick) (omega arith)
+in-range : (c : tie.Else2) → leb ticks (c .before .before .before .args .tick) ≡ false
+in-range c = lt-leb ticks (c .before .before .before .args .tick) (omega arith)
 
 placed : (c : tie.After-find)
-    → let a = c .before .before .before .before .before .args in Placed (a .room .now) (a .self .state .used) (c .find .result) (a .tick)
+    → let a = c .before .before .before .before .args in Placed (a .room .now) (a .s .used) (c .find .result) (a .tick)
 placed c =
-    let a = c .before .before .before .before .before .args in
-    sound-placed (a .self .state) (a .room .now) (c .find .result) (a .tick) (whole (c .before .before)) (c .find .ensures)
+    let a = c .before .before .before .before .args in
+    sound-placed (a .s) (a .room .now) (c .find .result) (a .tick) (whole (c .before .before)) (c .find .ensures)
 
 -- what the third test tells
 told : (c : tie.After-held) {v : Bool} → not (c .held .result) ≡ v
-    → let a = c .before .before .before .before .before .before .args in isHeld (holding (a .tick) (tableOf (a .self .state) (a .room .now))) ≡ not v
+    → let a = c .before .before .before .before .before .args in isHeld (holding (a .tick) (tableOf (a .s) (a .room .now))) ≡ not v
 told c = flipped (c .held .ensures)
 
 returns : tie.Need-returns
@@ -42,12 +42,12 @@ returns c = rw (flipped (c .before .sound .ensures) (c .if1 .taken))
 
 returns-2 : tie.Need-returns-2
 unfolding lookupOutcome checked foundOf
-returns-2 c = rw (whole (c .before), le-leb ticks (c .before .before .before .before .args .tick) (c .if2 .taken))
+returns-2 c = rw (whole (c .before), le-leb ticks (c .before .before .before .args .tick) (c .if2 .taken))
 
 find-requires : tie.Need-find-requires
 find-requires c κs =
-    let a = c .before .before .before .before .args in
-    sound-filled (a .self .state) (a .room .now) (sound-facts (a .self .state) (a .room .now) (whole (c .before)))
+    let a = c .before .before .before .args in
+    sound-filled (a .s) (a .room .now) (sound-facts (a .s) (a .room .now) (whole (c .before)))
 
 returns-3 : tie.Need-returns-3
 unfolding lookupOutcome checked foundOf found

@@ -11,11 +11,11 @@ use Rattle.rule.specs.declared.Kind.{Kind}
 use Rattle.rule.specs.declared.Kind.the-variants.{InOrder, Late}
 use Rattle.rule.specs.declared.Refusal.{Refusal}
 use Rattle.rule.specs.declared.State.{State}
-use Rattle.rule.specs.Calls.{accepted, checked, isHeld, late, lateVerdict}
+use Rattle.rule.specs.Calls.{Verdict, checked, isHeld, late, lateChecks}
 use Rattle.rule.specs.Numbers.{most, ticks}
 use Rattle.rule.specs.Room.{gapsBounded, gapsGood, runsAllowed, sound, tableOf}
 use Rattle.rule.specs.Rules.{ruled}
-use Rattle.rule.specs.Table.{Table, accept, holders, holding, insert, runs, single}
+use Rattle.rule.specs.Table.{Table, holders, holding, insert, runs, single}
 use Rattle.rule.proofs.Ruling.{Ruled, and-right, facts-ruled, late-ruled}
 use Rattle.rule.proofs.Tables.{one}
 use Rattle.slots.specs.Slots.{Filled}
@@ -23,7 +23,7 @@ use Rattle.room.specs.Steps.{Placed, position}
 use Rattle.slots.proofs.Laying.{length-slots}
 use Rattle.room.proofs.Placing.{held-counts, insert-at, place-within}
 use Rattle.room.proofs.Sounding.{Facts, sound-facts, sound-filled, sound-ordered}
-use Rattle.trace.proofs.Finding.{sound-placed}
+use Rattle.room.proofs.Finding.{sound-placed}
 use Rattle.room.specs.Steps.{Ready, with}
 
 -- ---- by the kind
@@ -76,9 +76,9 @@ module _ {s : State} {l : List ℤ} {tick : ℕ} (p : Passed s l tick) where
     pub late-free : holders tick (tableOf s l) ≡ 0
     late-free = held-counts 0 tick (tableOf s l) (sound-ordered s l facts) ∙ ap one free
 
-    pub late-left : (v : ℤ) → lateVerdict s l tick v ≡ checked ((ltb (s .settings .gaps) (runs (with s l tick v)), Refusal.Runs) ∷ []) (accepted (accept (s .settings) (tableOf s l) tick v))
-    unfolding lateVerdict checked
-    late-left v = rw (p .fit, p .kind, lt-leb ticks tick (p .small), free)
+    pub late-left : {A : Type 0} (v : ℤ) (w : Verdict A) → checked (lateChecks s l tick v) w ≡ checked ((ltb (s .settings .gaps) (runs (with s l tick v)), Refusal.Runs) ∷ []) w
+    unfolding checked
+    late-left v w = rw (p .fit, p .kind, lt-leb ticks tick (p .small), free)
 
     pub late-ready : {at k : ℕ} {v : ℤ} → at ≡ position tick (tableOf s l) → k ≡ runs (with s l tick v) → k ≤ s .settings .gaps → Ready s l at k tick v
     unfolding ruled

@@ -1,10 +1,10 @@
--- `trace::found_in` meets its contract.
+-- `lookup::found_in` meets its contract.
 use borrow.Author.Needs.{needs}
 use mir.Syntax.{w32}
 use Rattle.rule.specs.Calls.{found}
 use Rattle.rule.proofs.Signed.{read}
-use Rattle.trace.proofs.found_in.Statement.{statement}
-use Rattle.trace.proofs.found_in.Tie as tie
+use Rattle.lookup.proofs.found_in.Statement.{statement}
+use Rattle.lookup.proofs.found_in.Tie as tie
 
 level-requires : tie.Need-level-requires
 level-requires c κs = search needs

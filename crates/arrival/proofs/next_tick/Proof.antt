@@ -1,14 +1,14 @@
--- `trace::next_tick` meets its contract.
+-- `arrival::next_tick` meets its contract.
 use native.Mathlib.Omega.{arith}
 use Prim.Native.Nat.{_-_}
 use mathlib.Core.Path.{sym}
 use Rattle.rule.specs.Room.{slots}
 use Rattle.rule.specs.Table.{lastEnd}
 use Rattle.slots.proofs.Reading.{filled}
-use Rattle.trace.proofs.Following.{last-slot}
+use Rattle.arrival.proofs.Following.{last-slot}
 use borrow.Author.Needs.{needs}
-use Rattle.trace.proofs.next_tick.Statement.{statement}
-use Rattle.trace.proofs.next_tick.Tie as tie
+use Rattle.arrival.proofs.next_tick.Statement.{statement}
+use Rattle.arrival.proofs.next_tick.Tie as tie
 
 returns : tie.Need-returns
 unfolding slots lastEnd

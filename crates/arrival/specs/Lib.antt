@@ -1,0 +1,2 @@
+-- Where a reading goes.
+pub mod Arrivals

@@ -1,3 +1,3 @@
 -- Laws that belong to no one function.
-pub mod Granting
+pub mod Admitting
 pub mod OneOutcome

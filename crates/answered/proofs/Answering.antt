@@ -18,7 +18,7 @@ use Rattle.rule.specs.declared.State.{State}
 use Rattle.rule.specs.declared.Tally.{Tally}
 use Rattle.rule.specs.Answers.{number, place}
 use Rattle.rule.specs.Bytes.{recordsOf, saved}
-use Rattle.rule.specs.Calls.{Check, Verdict, accepted, admitted, checked, counted, fileVerdict, found, foundOf, gapsKept, grown, isHeld, kept, late, lateVerdict, loaded, loadVerdict, lookupOutcome, nextVerdict, refused, traced, writeVerdict, wrote}
+use Rattle.rule.specs.Calls.{accepted, admitted, Check, checked, counted, fileVerdict, found, foundOf, gapsKept, grown, isHeld, kept, late, lateVerdict, loaded, loadVerdict, lookupOutcome, measured, nextVerdict, refused, traced, Verdict, worstOutcome, writeVerdict, wrote}
 use Rattle.rule.specs.Numbers.{most, recordWidth, slotWidth, tallyMost, ticks, word}
 use Rattle.rule.specs.Files.{Finds, FirstBroken, meets}
 use Rattle.rule.specs.Room.{laid, signed, gapsBounded, gapsGood, roomy, runsAllowed, sound, stepsGood, tableOf}
@@ -27,14 +27,13 @@ use Rattle.rule.specs.Table.{Table, accept, holding, insert, limitOver, needed,
 use Rattle.rule.proofs.Merging.{settle-runs}
 use Rattle.rule.proofs.Ruling.{Meets, facts-meets, first-is-first, meets-facts}
 use Rattle.rule.proofs.Signed.{signed-fits}
-use Rattle.slots.proofs.Laying.{drop-laid}
-use Rattle.room.specs.Steps.{Ready}
-use Rattle.room.proofs.Sounding.{sound-facts, used-needed}
-use Rattle.room.proofs.Taking.{taken-short}
-use Rattle.trace.proofs.Leaving.{late-either, next-either, open-either}
+use Rattle.rooms.proofs.Laying.{drop-laid}
+use Rattle.rooms.specs.Steps.{Ready}
+use Rattle.rooms.proofs.Sounding.{sound-facts, used-needed}
+use Rattle.rooms.proofs.Taking.{taken-short}
+use Rattle.rooms.proofs.Leaving.{late-either, next-either, open-either}
 use Rattle.over.specs.Search.{firstOver, searchOutcome, sought, soughtOf}
-use Rattle.worst.specs.Outcome.{measured, worstOutcome}
-use Rattle.saved.proofs.Filing.{load-accepts, load-leaves, loads-needed}
+use Rattle.files.proofs.Filing.{load-accepts, load-leaves, loads-needed}
 use Rattle.answered.proofs.Outcomes.{traced-refused}
 use Rattle.rule.proofs.Whole.{by-test}
 use Rattle.answered.specs.Answered.{Answered, Demand1, Lawful, Row, fileRows, firstOf, lateRows, lookupRows, nextRows, openRows, outside, refusing, said, slotsNeeded, saidFound, saidMeasured, saidSought, saidWritten, searchRows, worstRows, writeRows}

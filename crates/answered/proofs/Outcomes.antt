@@ -14,11 +14,11 @@ use Rattle.rule.specs.Calls.{Verdict, accepted, late, nextOutcome, refused, sav
 use Rattle.rule.specs.Numbers.{recordWidth}
 use Rattle.rule.specs.declared.Written.{Written}
 use Rattle.rule.specs.Bytes.{saved}
-use Rattle.record.proofs.RoundTrip.{length-saved}
+use Rattle.files.proofs.RoundTrip.{length-saved}
 use Rattle.rule.specs.Room.{laid, tableOf}
 use Rattle.rule.specs.Table.{Table, needed}
-use Rattle.row.proofs.Filling.{write-either}
-use Rattle.trace.proofs.Leaving.{next-either}
+use Rattle.rooms.proofs.Writing.{write-either}
+use Rattle.rooms.proofs.Leaving.{next-either}
 
 module _ (g : Settings) (l : List ℤ) where
   -- a refusal is not accepted, and leaves the room

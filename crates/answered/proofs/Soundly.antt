@@ -25,9 +25,9 @@ use Rattle.rule.specs.Table.{Table, needed, readings, runs}
 use Rattle.rule.proofs.Ruling.{Ruled, and-both, and-left, and-right}
 use Rattle.rule.proofs.Signed.{equal-same, fits-signed, fits-unsigned, signed-fits, unsigned-fits}
 use Rattle.rule.proofs.Whole as wholes
-use Rattle.room.proofs.Sounding.{facts-sound, sound-facts}
-use Rattle.settings.proofs.Bounds.{steps-bounds}
-use Rattle.slots.proofs.Laying.{length-slots}
+use Rattle.rooms.proofs.Sounding.{facts-sound, sound-facts}
+use Rattle.rooms.proofs.Bounds.{steps-bounds}
+use Rattle.rooms.proofs.Laying.{length-slots}
 use Rattle.answered.specs.Answered.{slotsNeeded}
 use Rattle.answered.specs.Sound.{Follow, Lie, Soundness, Stands, Whole}
 use Rattle.answered.proofs.Answering.{law-meets, lawful, limit-is}

@@ -17,15 +17,14 @@ use Rattle.rule.specs.declared.Tally.{Tally}
 use Rattle.rule.specs.declared.Written.{Written}
 use Rattle.rule.specs.Answers.{number, place}
 use Rattle.rule.specs.Bytes.{recordsOf}
-use Rattle.rule.specs.Calls.{Verdict, accepted, counted, isHeld, late, lateOutcome, loaded, lookupOutcome, nextOutcome, opened, refused, rowOutcome, saveOutcome}
+use Rattle.rule.specs.Calls.{accepted, counted, isHeld, late, lateOutcome, loaded, lookupOutcome, nextOutcome, opened, refused, rowOutcome, saveOutcome, Verdict, worstOutcome}
 use Rattle.rule.specs.Files.{FirstBroken, meets}
 use Rattle.rule.specs.Room.{allOf, signed, sound, tableOf}
 use Rattle.rule.specs.Rules.{firstFault, placeOr, ruled, rules}
 use Rattle.rule.specs.Table.{accept, holding, nextTick, runs}
 use Rattle.over.specs.declared.Sought.{Sought}
 use Rattle.over.specs.Search.{searchOutcome}
-use Rattle.worst.specs.declared.Measured.{Measured}
-use Rattle.worst.specs.Outcome.{worstOutcome}
+use Rattle.rule.specs.declared.Measured.{Measured}
 
 -- ---- the table, call by call, in the orders of document 01
 -- Document 01's numbers stand here as it writes them and not by the names that the definitions have for them, so that a wrong number there does not pass.

@@ -6,7 +6,7 @@ use Rattle.rule.specs.declared.State.{State}
 use Rattle.rule.specs.Calls.{Verdict, accepted, checked, lateChecks, nextChecks, refused}
 use Rattle.rule.specs.Room.{tableOf}
 use Rattle.rule.specs.Table.{nextTick, runs}
-use Rattle.room.specs.Steps.{position, with}
+use Rattle.rooms.specs.Steps.{position, with}
 use Rattle.arrival.specs.declared.Arrival.{Arrival}
 use Rattle.arrival.specs.declared.Arrival.the-variants.{Goes, Refused}
 

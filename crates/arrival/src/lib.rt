@@ -3,7 +3,7 @@ ghost use mathlib.Core.Path.{_≡_};
 ghost use lib.IntN.{ℤ};
 ghost use Rattle.rule.specs.Room.{slots};
 ghost use Rattle.rule.specs.Table.{nextTick};
-ghost use Rattle.slots.specs.Slots.{Filled};
+ghost use Rattle.rooms.specs.Slots.{Filled};
 ghost use Rattle.arrival.specs.Arrivals.{lateArrival, nextArrival};
 use room::find;
 use room::held;

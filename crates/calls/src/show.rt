@@ -3,11 +3,11 @@ ghost use Prim.Native.Nat.{_≤_};
 use crate::line;
 use rule::Found;
 use rule::Kind;
+use rule::Measured;
 use rule::Refusal;
 use rule::Written;
 use trace::Answer;
 use trace::Trace;
-use worst::Measured;
 
 pub(crate) fn text(bytes: &[u8]) {
     io::write_all(libc::STDOUT_FILENO, bytes);

@@ -22,24 +22,23 @@ use Rattle.rule.specs.declared.Written.{Written}
 use Rattle.rule.specs.Answers.{number, place}
 use Rattle.rule.specs.Bucket.{distance}
 use Rattle.rule.specs.Bytes.{saved}
-use Rattle.rule.specs.Calls.{Verdict, accepted, checked, counted, found, foundOf, grown, isHeld, kept, late, lateOutcome, lateVerdict, loaded, lookupOutcome, nextOutcome, nextVerdict, opened, refused, rowOutcome, saveOutcome, traced, writeVerdict, wrote}
+use Rattle.rule.specs.Calls.{accepted, checked, counted, found, foundOf, grown, isHeld, kept, late, lateOutcome, lateVerdict, loaded, lookupOutcome, measured, nextOutcome, nextVerdict, opened, refused, rowOutcome, saveOutcome, traced, Verdict, worstOutcome, writeVerdict, wrote}
 use Rattle.rule.specs.Numbers.{recordWidth, slotWidth, ticks}
 use Rattle.rule.specs.Room.{allOf, clauses, sound, stepsGood, tableOf}
 use Rattle.rule.specs.Table.{Table, holders, holding, holds, needed, worst}
 use Rattle.rule.proofs.Whole.{by-test, whole}
 use Rattle.rule.proofs.Tables.{held-within, one}
-use Rattle.record.proofs.RoundTrip.{length-saved}
-use Rattle.slots.proofs.Laying.{length-slots}
-use Rattle.room.proofs.Placing.{held-counts}
-use Rattle.room.proofs.Sounding.{sound-facts, sound-ordered}
+use Rattle.files.proofs.RoundTrip.{length-saved}
+use Rattle.rooms.proofs.Laying.{length-slots}
+use Rattle.rooms.proofs.Placing.{held-counts}
+use Rattle.rooms.proofs.Sounding.{sound-facts, sound-ordered}
 use Rattle.trace.specs.Answers.{answer, answered}
 use Rattle.over.specs.declared.Sought.{Sought}
 use Rattle.over.specs.Promise.{First, Over, allOver, answerOf}
 use Rattle.over.specs.Search.{searchOutcome, soughtOf}
 use Rattle.over.proofs.Searching as searching
-use Rattle.worst.specs.declared.Measured.{Measured}
-use Rattle.worst.specs.Outcome.{measured, worstOutcome}
-use Rattle.saved.proofs.RoundTrips.{loaded-saved, saved-loaded}
+use Rattle.rule.specs.declared.Measured.{Measured}
+use Rattle.files.proofs.RoundTrips.{loaded-saved, saved-loaded}
 use Rattle.demands.specs.History.{Reading, arrived, tableAfter}
 use Rattle.demands.specs.Served.{Inside}
 use Rattle.plain.specs.declared.Counted.{Counted}

@@ -1,6 +1,6 @@
 -- The pass over a file's records: what is left of it from a record on gives the whole's first fault.
 use Prim.Native.Nat.{ℕ, zero, suc, _+_, _-_, _/_, _≤_, _<_}
-use mathlib.Core.Path.{_≡_, refl, ap, sym, _∙_}
+use mathlib.Core.Path.{_≡_, refl, sym, _∙_}
 use mathlib.Core.Bool.{true, false, cond, false≢true}
 use mathlib.Core.List.{List, [], _∷_}
 use native.Mathlib.Omega.{arith}
@@ -20,6 +20,7 @@ use Rattle.rule.proofs.Fitting.{Fitted}
 use Rattle.rules.specs.Numbered.{meets}
 use Rattle.rules.proofs.Numbered.{met}
 use Rattle.rule.proofs.Ruling.{ordered-readings, ruled-end, ruled-facts, ruled-ordered}
+use Rattle.files.proofs.Records.{length-file}
 
 -- ---- the pass
 
@@ -72,15 +73,6 @@ unfolding firstFault
 past-all k e i [] n h p = refl
 past-all k e i (b ∷ t) n h p =
     passed i (broken k e b) n (firstFault k (end b) (suc i) t) (omega arith) (past-all k (end b) (suc i) t n (omega arith)) p
-
-pub length-records : (l : List ℕ) (i n : ℕ) → length (records l i n) ≡ n
-unfolding records
-length-records l i zero = refl
-length-records l i (suc n) = ap suc (length-records l (suc i) n)
-
-pub length-file : (l : List ℕ) → length (recordsOf l) ≡ length l / recordWidth
-unfolding recordsOf
-length-file l = length-records l 0 (length l / recordWidth)
 
 -- the pass comes to the number of records only where none is at fault
 pub file-whole : (k : Kind) (l : List ℕ) → length l / recordWidth ≤ placeOr (length l / recordWidth) (firstFault k 0 0 (recordsOf l)) → firstFault k 0 0 (recordsOf l) ≡ whole

@@ -16,8 +16,8 @@ use Rattle.rule.specs.Numbers.{ticks}
 use Rattle.rule.specs.Room.{zeros}
 use Rattle.rule.specs.Table.{limitOver}
 use Rattle.rule.proofs.Whole.{by-test}
-use Rattle.settings.proofs.Bounds.{needed-small}
-use Rattle.room.proofs.Sounding.{sound-facts, used-needed}
+use Rattle.rooms.proofs.Bounds.{needed-small}
+use Rattle.rooms.proofs.Sounding.{sound-facts, used-needed}
 use Rattle.trace.specs.declared.Answer.{Answer}
 use Rattle.trace.specs.declared.Answer.the-variants.{Accepted, Refused}
 use Rattle.trace.specs.declared.Trace.{Trace}

@@ -15,14 +15,14 @@ use Rattle.rule.specs.Room.{sound, tableOf}
 use Rattle.rule.specs.Table.{Table, accept, readings}
 use Rattle.rule.proofs.Signed.{signed-fits}
 use Rattle.rule.proofs.Whole.{by-test}
-use Rattle.room.specs.Steps.{Ready}
-use Rattle.room.proofs.Sounding.{sound-facts, sound-readings}
-use Rattle.room.proofs.Taking.{taken-sound, taken-state}
+use Rattle.rooms.specs.Steps.{Ready}
+use Rattle.rooms.proofs.Sounding.{sound-facts, sound-readings}
+use Rattle.rooms.proofs.Taking.{taken-sound, taken-state}
 use Rattle.trace.specs.declared.Answer.{Answer}
 use Rattle.trace.specs.declared.Answer.the-variants.{Accepted, Refused}
 use Rattle.trace.specs.Answers.{answer}
-use Rattle.trace.specs.Left.{LeavesSound, LeftBy}
-use Rattle.trace.proofs.Leaving.{late-either, next-either, open-either, open-leaves}
+use Rattle.rooms.specs.Left.{LeavesSound, LeftBy}
+use Rattle.rooms.proofs.Leaving.{late-either, next-either, open-either, open-leaves}
 use Rattle.notation.specs.declared.Line.{Line}
 use Rattle.notation.proofs.Ranges.{Ranged}
 use Rattle.listing.specs.declared.Stage.{Stage}

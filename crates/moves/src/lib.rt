@@ -6,7 +6,7 @@ ghost use lib.ListN.{length, take, drop};
 ghost use Rattle.rule.specs.Numbers.{slotWidth, word};
 ghost use Rattle.rule.specs.Room.{laid, slots, zeros};
 ghost use Rattle.rule.specs.Table.{mergeAt, readings};
-ghost use Rattle.slots.specs.Slots.{Filled};
+ghost use Rattle.rooms.specs.Slots.{Filled};
 use rule::Bucket;
 use rule::SLOT;
 use slots::read;

@@ -8,17 +8,15 @@ use lib.Dec.{ltb}
 use lib.IntN.{pos, negsuc}
 use lib.ListN.{getD}
 use Rattle.rule.proofs.Ruling.{and-left, and-right}
-use Rattle.saved.specs.Bytes.{AllBytes}
+use Rattle.files.specs.Bytes.{AllBytes}
 use native.Mathlib.Omega.{arith}
 use Rattle.rule.specs.Bucket.{distance, larger, lesser, middle}
 use Rattle.rule.specs.Table.{accept, cheaper, cheapest, choice, holding, holds, insert, lastEnd, limitOver, merge, mergeAt, mergeOf, readings, runs, runsAfter, settle, settleIn, worst}
 use Rattle.rule.specs.Rules.{broken, equal, faultAt, firstFalse, firstFault, follows, isWhole, placeOr, ruled, rules}
 use Rattle.rule.specs.Room.{allOf, allZero, clauses, flat, gapsBounded, gapsGood, laid, ranged, restZero, roomy, runsAllowed, slot, slotRanged, slots, sound, stepsGood, within, zeros}
 use Rattle.rule.specs.Bytes.{bits, bytes, reading, recordAt, records, recordsOf, saved, savedRecord, wordAt}
-use Rattle.rule.specs.Calls.{admitted, checked, counted, fileVerdict, found, foundOf, gapsKept, grown, isHeld, late, lateVerdict, lookupOutcome, nextVerdict, traced, writeVerdict, wrote}
+use Rattle.rule.specs.Calls.{admitted, checked, counted, fileVerdict, found, foundOf, gapsKept, grown, isHeld, late, lateVerdict, lookupOutcome, measured, nextVerdict, onward, traced, worstOutcome, writeVerdict, wrote}
 use Rattle.over.specs.Search.{firstOver, over, searchOutcome, sought, soughtOf, touches}
-use Rattle.worst.specs.Outcome.{measured, worstOutcome}
-use Rattle.session.specs.Session.{onward}
 use Rattle.offset.specs.Caller.{after, answer, answers, begun, kept, left, part}
 use Rattle.offset.specs.Offset.{FileMoved, FilesMoved, each, lates-too, loads-too, lookups-too, nexts-too, none, opens-too, rows-too, saves-too, searches-too, worsts-too}
 use Rattle.offset.specs.ByHand.{ByHand, files, filesMoved}

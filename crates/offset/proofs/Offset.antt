@@ -19,7 +19,7 @@ use Rattle.rule.specs.declared.Tally.{Tally}
 use Rattle.rule.specs.declared.Written.{Written}
 use Rattle.rule.specs.Bucket.{level}
 use Rattle.rule.specs.Bytes.{bits, bytes, recordsOf, saved, savedRecord}
-use Rattle.rule.specs.Calls.{Check, Verdict, refused, accepted, admitted, checked, counted, fileVerdict, found, foundOf, isHeld, kept as keptAs, lateVerdict, loaded, lookupOutcome, nextVerdict, stateOf, traced, writeVerdict, wrote}
+use Rattle.rule.specs.Calls.{accepted, admitted, Check, checked, counted, fileVerdict, found, foundOf, isHeld, kept as keptAs, lateVerdict, loaded, lookupOutcome, nextVerdict, onward, refused, stateOf, traced, Verdict, worstOutcome, writeVerdict, wrote}
 use Rattle.rule.specs.Numbers.{recordWidth, ticks}
 use Rattle.rule.specs.Room.{laid, roomy, signed, slots, sound, tableOf}
 use Rattle.rule.specs.Table.{Table, holding, insert, needed, nextTick, runs, single}
@@ -28,18 +28,16 @@ use Rattle.rule.specs.Rules.{ruled}
 use Rattle.rule.proofs.Errors.{error-is-half}
 use Rattle.rule.proofs.Fitting.{Fitted}
 use Rattle.rule.proofs.Whole.{whole, by-test, middle-down, middle-up, one-side, sum}
-use Rattle.record.proofs.RoundTrip.{length-saved, records-saved}
-use Rattle.room.proofs.Sounding.{sound-facts}
-use Rattle.row.proofs.Filling.{write-either}
-use Rattle.slots.proofs.Fitting.{fitted-slots}
-use Rattle.slots.proofs.Laying.{slots-laid}
-use Rattle.saved.specs.Bytes.{AllBytes}
-use Rattle.saved.proofs.RoundTrips.{load-sound}
-use Rattle.session.specs.Session.{onward}
-use Rattle.trace.specs.Left.{LeavesSound, LeftBy}
-use Rattle.trace.proofs.Leaving.{late-leaves, next-leaves, open-leaves}
+use Rattle.files.proofs.RoundTrip.{length-saved, records-saved}
+use Rattle.rooms.proofs.Sounding.{sound-facts}
+use Rattle.rooms.proofs.Writing.{write-either}
+use Rattle.rooms.proofs.Fitting.{fitted-slots}
+use Rattle.rooms.proofs.Laying.{slots-laid}
+use Rattle.files.specs.Bytes.{AllBytes}
+use Rattle.files.proofs.RoundTrips.{load-sound}
+use Rattle.rooms.specs.Left.{LeavesSound, LeftBy}
+use Rattle.rooms.proofs.Leaving.{late-leaves, next-leaves, open-leaves}
 use Rattle.over.specs.Search.{searchOutcome}
-use Rattle.worst.specs.Outcome.{worstOutcome}
 use Rattle.offset.specs.Caller as caller
 use Rattle.offset.specs.Caller.{Answer, Call, Caller, after, answer, answers, begun, fed, fileAt, idle, kept, left, part}
 use Rattle.offset.specs.Offset.{AllHigher, Alike, FileMoved, FilesMoved, Higher, Offset, each, higher, lates-too, loads-too, lookups-too, movedAll, movedAnswer, movedFound, nexts-too, none as no-more, opens-too, readingsIn, rows-too, saves-too, searches-too, worsts-too}

@@ -12,7 +12,7 @@ use Rattle.rule.specs.declared.Written.{Written}
 use Rattle.rule.specs.ByHand.{bucket, gappy, inOrder}
 use Rattle.rule.specs.Calls.{accepted, refused}
 use Rattle.over.specs.declared.Sought.{Sought}
-use Rattle.worst.specs.declared.Measured.{Measured}
+use Rattle.rule.specs.declared.Measured.{Measured}
 use Rattle.offset.specs.Offset.{AllHigher, FilesMoved}
 use Rattle.offset.specs.Caller.{Answer, Call, Caller, after, answers, drawn, filed, idle, lates, loads, lookups, measured, nexts, opens, pointed, rows, saves, searches, shown, traced, worsts}
 

@@ -9,12 +9,10 @@ use Rattle.rule.specs.declared.Settings.{Settings}
 use Rattle.rule.specs.declared.State.{State}
 use Rattle.rule.specs.declared.Tally.{Tally}
 use Rattle.rule.specs.declared.Written.{Written}
-use Rattle.rule.specs.Calls.{Verdict, refused, accepted, counted, lateOutcome, loaded, lookupOutcome, nextOutcome, opened, rowOutcome, saveOutcome}
+use Rattle.rule.specs.Calls.{accepted, counted, lateOutcome, loaded, lookupOutcome, nextOutcome, onward, opened, refused, rowOutcome, saveOutcome, Verdict, worstOutcome}
 use Rattle.over.specs.declared.Sought.{Sought}
 use Rattle.over.specs.Search.{searchOutcome}
-use Rattle.session.specs.Session.{onward}
-use Rattle.worst.specs.declared.Measured.{Measured}
-use Rattle.worst.specs.Outcome.{worstOutcome}
+use Rattle.rule.specs.declared.Measured.{Measured}
 
 -- what a caller has between calls; a file that is saved is put before the others
 pub record Caller : Type 0 where

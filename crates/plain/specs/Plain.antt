@@ -7,13 +7,12 @@ use Rattle.rule.specs.declared.Found.{Found}
 use Rattle.rule.specs.declared.Tally.{Tally}
 use Rattle.rule.specs.declared.Written.{Written}
 use Rattle.rule.specs.Answers.{number, place}
-use Rattle.rule.specs.Calls.{counted, lateOutcome, loaded, lookupOutcome, nextOutcome, opened, rowOutcome, saveOutcome}
+use Rattle.rule.specs.Calls.{counted, lateOutcome, loaded, lookupOutcome, nextOutcome, opened, rowOutcome, saveOutcome, worstOutcome}
 use Rattle.over.specs.declared.Sought.{Sought}
 use Rattle.over.specs.Search.{searchOutcome}
 use Rattle.trace.specs.Answers.{answered}
 use Rattle.trace.specs.declared.Answer.{Answer}
-use Rattle.worst.specs.declared.Measured.{Measured}
-use Rattle.worst.specs.Outcome.{worstOutcome}
+use Rattle.rule.specs.declared.Measured.{Measured}
 use Rattle.fields.specs.declared.Named.{Named}
 use Rattle.fields.specs.declared.Fields.{Fields}
 use Rattle.fields.specs.States.{fieldsOf, none, settingsOf, stateFrom}

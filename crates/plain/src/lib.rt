@@ -5,9 +5,9 @@ use fields::Fields;
 use fields::fields_of;
 use over::Sought;
 use rule::Found;
+use rule::Measured;
 use rule::Written;
 use trace::Answer;
-use worst::Measured;
 
 // Refusal 0 where the call was accepted: then the state is the next one, else the one that was given.
 #[repr(C)]

@@ -26,17 +26,17 @@ use Rattle.rule.proofs.Ruling.{Ruled}
 use Rattle.rule.proofs.Tables.{held-member, held-once, held-within, one}
 use Rattle.rule.proofs.Whole.{by-test, distance-is, whole}
 use Rattle.rule.proofs.Fitting.{Fitted, Fitting}
-use Rattle.slots.proofs.Fitting.{fitted-slots}
-use Rattle.slots.proofs.Laying.{length-slots, slots-laid}
-use Rattle.room.proofs.Placing.{held-counts}
+use Rattle.rooms.proofs.Fitting.{fitted-slots}
+use Rattle.rooms.proofs.Laying.{length-slots, slots-laid}
+use Rattle.rooms.proofs.Placing.{held-counts}
 use Rattle.rule.proofs.Signed.{signed-fits}
-use Rattle.room.proofs.Sounding.{sound-facts, sound-ordered}
-use Rattle.settings.proofs.Bounds.{steps-bounds}
-use Rattle.trace.specs.Left.{LeavesSound, LeftBy}
-use Rattle.saved.proofs.Filing.{save-writes}
-use Rattle.saved.proofs.RoundTrips.{loaded-saved, saved-accepted, saved-loaded, saved-loaded-slots}
-use Rattle.arrival.proofs.Arriving.{late-free}
-use Rattle.trace.proofs.Leaving.{late-either, late-leaves, next-either, next-leaves, open-either, open-leaves}
+use Rattle.rooms.proofs.Sounding.{sound-facts, sound-ordered}
+use Rattle.rooms.proofs.Bounds.{steps-bounds}
+use Rattle.rooms.specs.Left.{LeavesSound, LeftBy}
+use Rattle.files.proofs.Filing.{save-writes}
+use Rattle.files.proofs.RoundTrips.{loaded-saved, saved-accepted, saved-loaded, saved-loaded-slots}
+use Rattle.rooms.proofs.Arriving.{late-free}
+use Rattle.rooms.proofs.Leaving.{late-either, late-leaves, next-either, next-leaves, open-either, open-leaves}
 use Rattle.demands.specs.History.{Accepted, Reading, Takes, arrived, runsOf, tableAfter}
 use Rattle.demands.specs.Served.{Served}
 use Rattle.demands.proofs.Instance.{demand3 as of-tables}

@@ -4,21 +4,19 @@ use mathlib.Core.Path.{_≡_, refl, sym, _∙_}
 use mathlib.Core.Bool.{true}
 use mathlib.Core.List.{List}
 use native.Mathlib.Omega.{arith}
-use borrow.Author.Tests.{ltb-false, not-false}
 use lib.IntN.{ℤ}
 use lib.ListN.{length, drop, getD, set, length-append, length-drop}
 use lib.Seq.{append-snoc, drop-cons, set-at}
-use Rattle.rule.specs.declared.Refusal.{Refusal}
 use Rattle.rule.specs.declared.State.{State}
 use Rattle.rule.specs.Numbers.{slotWidth}
-use Rattle.rule.specs.Calls.{Verdict, accepted, refused, rowOutcome, writeVerdict, wrote}
-use Rattle.rule.specs.Room.{slot, slotRanged, slots, sound, tableOf}
+use Rattle.rule.specs.Calls.{rowOutcome, wrote}
+use Rattle.rule.specs.Room.{slot, slotRanged, slots}
 use Rattle.rule.specs.Table.{Table}
-use Rattle.slots.proofs.Laying.{length-slots, slots-split}
-use Rattle.slots.proofs.Reading.{filled}
-use Rattle.rule.proofs.Checks.{Unrefused, past-checks}
-use Rattle.room.proofs.Sounding.{sound-facts, sound-filled}
+use Rattle.rooms.proofs.Laying.{length-slots, slots-split}
+use Rattle.rooms.proofs.Reading.{filled}
+use Rattle.rooms.proofs.Sounding.{sound-facts, sound-filled}
 use Rattle.row.specs.Answers.{answer, number, rowAnswer, upTo}
+use Rattle.rooms.proofs.Writing.{write-either}
 
 pub none-yet : (l : List ℤ) (out : Table) → out ≡ upTo l 0 out
 unfolding slots
@@ -36,23 +34,17 @@ one-more l i out h =
     (sym (append-snoc (slots l 0 i) (slot l i) (drop (suc i) out)))
 
 module _ (s : State) (l : List ℤ) where
-  -- what holds of every refusal, and of the buckets of a sound trace that have place, holds of what is to be written
-  pub write-either : (taken places : ℕ) (P : Verdict Table → Type 0) → ((r : Refusal) → P (refused r)) → (sound s l ≡ true → taken ≤ places → P (accepted (tableOf s l))) → P (writeVerdict s l taken places)
-  unfolding writeVerdict Unrefused
-  write-either taken places P refuses writes =
-      past-checks P refuses _ _ (λ p. writes (not-false _ (p .0)) (ltb-false places taken (p .1 .0)))
-
   pub number-fits : (n : ℕ) → number (rowAnswer s l n) ≤ n
   unfolding answer number
-  number-fits n = write-either (s .used) n (λ v. number (answer v) ≤ n) (λ r. omega arith) (λ e h. omega (arith, length-slots l 0 (s .used)))
+  number-fits n = write-either s l (s .used) n (λ v. number (answer v) ≤ n) (λ r. omega arith) (λ e h. omega (arith, length-slots l 0 (s .used)))
 
   -- each bucket that is counted can be read
   pub readable : (n i : ℕ) → i < number (rowAnswer s l n) → (slotWidth * suc i ≤ length l) × (slotRanged l i ≡ true)
   unfolding answer number
-  readable n i = write-either (s .used) n (λ v. i < number (answer v) → (slotWidth * suc i ≤ length l) × (slotRanged l i ≡ true)) (λ r k. absurd (omega arith))
+  readable n i = write-either s l (s .used) n (λ v. i < number (answer v) → (slotWidth * suc i ≤ length l) × (slotRanged l i ≡ true)) (λ r k. absurd (omega arith))
       (λ e h k. filled (sound-filled s l (sound-facts s l e)) i (omega (arith, length-slots l 0 (s .used))))
 
   -- all places written are the outcome
   pub all-written : (out : Table) → let a = rowAnswer s l (length out) in (a, upTo l (number a) out) ≡ rowOutcome s l out
   unfolding answer number wrote slots
-  all-written out = write-either (s .used) (length out) (λ v. (answer v, upTo l (number (answer v)) out) ≡ wrote (λ t. t) out v) (λ r. refl) (λ e h. rw (length-slots l 0 (s .used)))
+  all-written out = write-either s l (s .used) (length out) (λ v. (answer v, upTo l (number (answer v)) out) ≡ wrote (λ t. t) out v) (λ r. refl) (λ e h. rw (length-slots l 0 (s .used)))

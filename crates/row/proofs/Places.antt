@@ -12,9 +12,10 @@ use Rattle.rule.specs.declared.Written.{Written}
 use Rattle.rule.specs.Calls.{rowOutcome, wrote}
 use Rattle.rule.specs.Room.{tableOf}
 use Rattle.rule.specs.Table.{Table}
-use Rattle.slots.proofs.Laying.{length-slots}
+use Rattle.rooms.proofs.Laying.{length-slots}
 use Rattle.row.specs.Answers.{number, rowAnswer}
-use Rattle.row.proofs.Filling.{all-written, as-long, number-fits, write-either}
+use Rattle.row.proofs.Filling.{all-written, as-long, number-fits}
+use Rattle.rooms.proofs.Writing.{write-either}
 
 other : (r : Refusal) (n : ℕ) → Written.Refused r ≡ Written.Buckets n → ⊥
 other r n e = let none : _≡_ {A = ℕ} 0 1 = cc in omega arith

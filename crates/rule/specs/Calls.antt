@@ -13,11 +13,12 @@ use Rattle.rule.specs.declared.Settings.{Settings}
 use Rattle.rule.specs.declared.State.{State}
 use Rattle.rule.specs.declared.Refusal.{Refusal}
 use Rattle.rule.specs.declared.Found.{Found}
+use Rattle.rule.specs.declared.Measured.{Measured}
 use Rattle.rule.specs.declared.Written.{Written}
 use Rattle.rule.specs.declared.Tally.{Tally}
 use Rattle.rule.specs.Numbers.{ticks, recordWidth, tallyMost}
 use Rattle.rule.specs.Bucket.{level, error}
-use Rattle.rule.specs.Table.{Table, accept, holding, insert, limit, needed, nextTick, readings, runs, single}
+use Rattle.rule.specs.Table.{Table, accept, holding, insert, limit, needed, nextTick, readings, runs, single, worst}
 use Rattle.rule.specs.Rules.{firstFault, placeOr, ruled}
 use Rattle.rule.specs.Room.{gapsGood, laid, roomy, runsAllowed, sound, stepsGood, tableOf}
 use Rattle.rule.specs.Bytes.{recordsOf, saved}
@@ -40,6 +41,11 @@ checked (c ∷ l) v = cond (c .0) (refused (c .1)) (checked l v)
 -- the state of a trace whose buckets are t
 abbrev pub stateOf : Settings → Table → State
 stateOf s t = record { settings = s; used = length t; runs = runs t; readings = readings t }
+
+-- the state to go on with: after a refusal the one there was
+unfoldable pub onward : State → Verdict State → State
+onward s (refused r) = s
+onward s (accepted t) = t
 
 -- the answer and the room afterwards, of a call that leaves the trace with the buckets t; a refusal leaves the room as it stood
 unfoldable pub traced : Settings → List ℤ → Verdict Table → Verdict State × List ℤ
@@ -128,6 +134,15 @@ lookupOutcome s l tick =
     ((not (sound s l), Refusal.Unsound)
     ∷ (leb ticks tick, Refusal.Tick)
     ∷ []) (accepted (holding tick (tableOf s l))))
+
+-- ---- the worst error: 4
+
+unfoldable pub measured : Verdict ℕ → Measured
+measured (refused r) = Measured.Refused r
+measured (accepted e) = Measured.Error e
+
+unfoldable pub worstOutcome : State → List ℤ → Measured
+worstOutcome s l = measured (checked ((not (sound s l), Refusal.Unsound) ∷ []) (accepted (worst (tableOf s l))))
 
 -- ---- row and save: 4, 13
 

@@ -70,6 +70,12 @@ pub enum Found {
     Refused(Refusal),
 }
 
+// What the worst error answers: the greatest error of a bucket, 0 where there is none.
+pub enum Measured {
+    Error(u32),
+    Refused(Refusal),
+}
+
 // What row and save answer: the number of buckets written.
 pub enum Written {
     Buckets(usize),

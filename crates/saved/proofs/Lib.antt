@@ -1,4 +1,3 @@
 -- Laws that belong to no one function.
-pub mod Filing
-pub mod RoundTrips
+pub mod Inspecting
 pub mod OneOutcome

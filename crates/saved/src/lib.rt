@@ -7,7 +7,7 @@ ghost use Rattle.rule.specs.Numbers.{recordWidth, slotWidth};
 ghost use Rattle.rule.specs.Bytes.{records, saved};
 ghost use Rattle.rule.specs.Calls.{loaded, saveOutcome};
 ghost use Rattle.rule.specs.Room.{flat, slots};
-ghost use Rattle.slots.specs.Slots.{Filled};
+ghost use Rattle.rooms.specs.Slots.{Filled};
 ghost use Rattle.trace.specs.Answers.{answered};
 use admission::Admitted;
 use admission::admit;

@@ -10,7 +10,7 @@ use borrow.Author.Count.{below-more}
 use lib.IntN.{ℤ}
 use Rattle.over.specs.Search.{firstOver, over}
 use Rattle.rule.specs.Room.{slot, slots}
-use Rattle.slots.proofs.Scoring.{slots-next}
+use Rattle.rooms.proofs.Scoring.{slots-next}
 
 module _ (first last : ℕ) (bar : ℤ) (l : List ℤ) (n : ℕ) where
   pub record Passed (i : ℕ) : Type 0 where

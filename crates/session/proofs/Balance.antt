@@ -10,20 +10,20 @@ use mir.Val.{SFits}
 use Rattle.rule.specs.declared.Refusal.{Refusal}
 use Rattle.rule.specs.declared.Settings.{Settings}
 use Rattle.rule.specs.declared.State.{State}
-use Rattle.rule.specs.Calls.{Verdict, accepted, counted, grown, kept, opened, refused, stateOf, traced}
+use Rattle.rule.specs.Calls.{accepted, counted, grown, kept, onward, opened, refused, stateOf, traced, Verdict}
 use Rattle.rule.specs.Numbers.{tallyMost, ticks, word}
 use Rattle.rule.specs.Room.{sound, tableOf}
 use Rattle.rule.specs.Table.{Table, accept, readings}
 use Rattle.rule.proofs.Signed.{signed-fits}
-use Rattle.room.proofs.Sounding.{sound-facts, sound-readings}
+use Rattle.rooms.proofs.Sounding.{sound-facts, sound-readings}
 use Rattle.trace.specs.declared.Answer.{Answer}
 use Rattle.trace.specs.Answers.{verdict}
-use Rattle.trace.specs.Left.{LeavesSound, LeftBy}
-use Rattle.room.specs.Steps.{Ready}
+use Rattle.rooms.specs.Left.{LeavesSound, LeftBy}
+use Rattle.rooms.specs.Steps.{Ready}
 use Rattle.trace.proofs.Verdicts.{verdict-answer}
-use Rattle.trace.proofs.Leaving.{late-either, next-either, open-either, open-leaves}
-use Rattle.room.proofs.Taking.{taken-short, taken-sound, taken-state}
-use Rattle.session.specs.Session.{AlwaysTallied, CallsLeave, GrownTally, Call, Session, TrueTally, acceptedAmong, acceptedOne, after, begun, late, left, next, onward, outcome, refusedAmong, refusedOne}
+use Rattle.rooms.proofs.Leaving.{late-either, next-either, open-either, open-leaves}
+use Rattle.rooms.proofs.Taking.{taken-short, taken-sound, taken-state}
+use Rattle.session.specs.Session.{AlwaysTallied, CallsLeave, GrownTally, Call, Session, TrueTally, acceptedAmong, acceptedOne, after, begun, late, left, next, outcome, refusedAmong, refusedOne}
 
 -- ---- how the counts grow, on any state and room with any tally
 

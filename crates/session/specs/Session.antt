@@ -8,7 +8,7 @@ use lib.ListN.{length}
 use Rattle.rule.specs.declared.Settings.{Settings}
 use Rattle.rule.specs.declared.State.{State}
 use Rattle.rule.specs.declared.Tally.{Tally}
-use Rattle.rule.specs.Calls.{Verdict, refused, accepted, counted, lateOutcome, nextOutcome, opened}
+use Rattle.rule.specs.Calls.{accepted, counted, lateOutcome, nextOutcome, onward, opened, refused, Verdict}
 use Rattle.rule.specs.Numbers.{tallyMost}
 use Rattle.rule.specs.Room.{signed}
 use Rattle.trace.specs.declared.Answer.{Answer}
@@ -32,11 +32,6 @@ begun s l = record { state = s; room = l; tally = record { accepted = 0; refused
 unfoldable pub outcome : Session → Call → Verdict State × List ℤ
 outcome c (next v ranged) = nextOutcome (c .state) (c .room) v
 outcome c (late tick v ranged) = lateOutcome (c .state) (c .room) tick v
-
--- the state to go on with: after a refusal the one there was
-unfoldable pub onward : State → Verdict State → State
-onward s (refused r) = s
-onward s (accepted t) = t
 
 -- what a reading of such an outcome leaves
 abbrev pub left : Session → Verdict State × List ℤ → Session

@@ -8,10 +8,10 @@ use lib.IntN.{ℤ}
 use lib.ListN.{length, length-append}
 use Rattle.rule.specs.Room.{slot, slots}
 use Rattle.rule.specs.Table.{Table}
-use Rattle.slots.specs.Slots.{Filled}
-use Rattle.slots.proofs.Fitting.{fitting-slot}
-use Rattle.slots.proofs.Laying.{slots-split}
-use Rattle.slots.proofs.Reading.{filled}
+use Rattle.rooms.specs.Slots.{Filled}
+use Rattle.rooms.proofs.Fitting.{fitting-slot}
+use Rattle.rooms.proofs.Laying.{slots-split}
+use Rattle.rooms.proofs.Reading.{filled}
 use Rattle.notation.specs.Printing.{lineRoom, row, rows}
 use Rattle.notation.proofs.Texts.{row-short}
 

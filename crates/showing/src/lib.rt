@@ -3,7 +3,7 @@ ghost use Prim.Native.Nat.{_*_, _≤_};
 ghost use mathlib.Core.Path.{_≡_};
 ghost use lib.ListN.{length};
 ghost use Rattle.rule.specs.Room.{slots, tableOf};
-ghost use Rattle.slots.specs.Slots.{Filled};
+ghost use Rattle.rooms.specs.Slots.{Filled};
 ghost use Rattle.notation.specs.Printing.{Printed, lineRoom, listing, rows};
 ghost use Rattle.listing.specs.Listing.{shown};
 ghost use Rattle.listing.specs.Feeding.{Listable, Showable};

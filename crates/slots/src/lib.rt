@@ -7,7 +7,7 @@ ghost use lib.ListN.{length};
 ghost use Rattle.rule.specs.Numbers.{slotWidth};
 ghost use Rattle.rule.specs.Room.{slot, slotRanged, slots};
 ghost use Rattle.rule.specs.Table.{cheapest, choice};
-ghost use Rattle.slots.specs.Slots.{Filled, costOf, placeOf, put};
+ghost use Rattle.rooms.specs.Slots.{Filled, costOf, placeOf, put};
 use rule::Bucket;
 use rule::SLOT;
 use rule::WORD;

@@ -12,7 +12,7 @@ use Rattle.rule.specs.Room.{allOf, clauses, gapsGood, restZero, roomy, runsAllo
 use Rattle.rule.specs.Table.{limit}
 use Rattle.sound.proofs.Tests.{fails}
 use Rattle.sound.proofs.Scanning.{scanned}
-use Rattle.settings.proofs.Bounds.{limit-gaps, mostAllowed, needed-small}
+use Rattle.rooms.proofs.Bounds.{limit-gaps, mostAllowed, needed-small}
 
 abbrev pub tests : State → List ℤ → List Bool
 tests s l =

@@ -1,5 +1,4 @@
 -- Laws that belong to no one function.
 pub mod Taking
-pub mod Leaving
 pub mod Verdicts
 pub mod OneOutcome

@@ -10,7 +10,7 @@ use Rattle.rule.specs.Room.{tableOf}
 use Rattle.rule.specs.Table.{accept}
 use Rattle.arrival.specs.declared.Arrival.the-variants.{Goes}
 use Rattle.arrival.specs.Arrivals.{lateArrival, met, nextArrival}
-use Rattle.arrival.proofs.Passing.{late-passed, next-passed}
+use Rattle.rooms.proofs.Passing.{late-passed, next-passed}
 use Rattle.trace.specs.Taken.{Arrives, taken}
 
 module _ (s : State) (l : List ℤ) (v : ℤ) where

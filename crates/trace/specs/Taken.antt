@@ -5,7 +5,7 @@ use Rattle.rule.specs.declared.State.{State}
 use Rattle.rule.specs.Calls.{Verdict, accepted, refused}
 use Rattle.rule.specs.Room.{tableOf}
 use Rattle.rule.specs.Table.{Table, accept}
-use Rattle.room.specs.Steps.{Ready}
+use Rattle.rooms.specs.Steps.{Ready}
 use Rattle.arrival.specs.declared.Arrival.{Arrival}
 use Rattle.arrival.specs.declared.Arrival.the-variants.{Goes, Refused}
 

@@ -3,7 +3,7 @@ ghost use mathlib.Core.Path.{_≡_};
 ghost use Rattle.rule.specs.Calls.{lateOutcome, lookupOutcome, nextOutcome, opened, stateOf, traced};
 ghost use Rattle.rule.specs.Room.{laid, tableOf};
 ghost use Rattle.rule.specs.Table.{accept, needed};
-ghost use Rattle.room.specs.Steps.{Ready};
+ghost use Rattle.rooms.specs.Steps.{Ready};
 ghost use Rattle.trace.specs.Answers.{answered};
 ghost use Rattle.trace.specs.Taken.{Arrives, taken};
 use admission::Admitted;

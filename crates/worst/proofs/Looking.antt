@@ -8,7 +8,7 @@ use lib.IntN.{ℤ}
 use Rattle.rule.specs.Bucket.{error}
 use Rattle.rule.specs.Room.{slot, slots}
 use Rattle.rule.specs.Table.{worst}
-use Rattle.slots.proofs.Scoring.{slots-next}
+use Rattle.rooms.proofs.Scoring.{slots-next}
 
 grouped : (a b c : ℕ) → max (max a b) c ≡ max a (max b c)
 grouped a b c = omega arith

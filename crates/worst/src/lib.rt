@@ -1,18 +1,13 @@
 // The worst error of a trace.
 ghost use mathlib.Core.Path.{_≡_};
+ghost use Rattle.rule.specs.Calls.{worstOutcome};
 ghost use Rattle.rule.specs.Room.{slots};
 ghost use Rattle.rule.specs.Table.{worst};
-ghost use Rattle.slots.specs.Slots.{Filled};
-ghost use Rattle.worst.specs.Outcome.{worstOutcome};
+ghost use Rattle.rooms.specs.Slots.{Filled};
+use rule::Measured;
 use rule::Refusal;
 use sound::sound;
 use trace::Trace;
-
-// What `worst` answers: the greatest error of a bucket, 0 where there is none.
-pub enum Measured {
-    Error(u32),
-    Refused(Refusal),
-}
 
 // The greatest error of the buckets in the first slots, 0 where there are none.
 pub fn greatest_error(room: &[i64], used: usize) -> u32

@@ -10,7 +10,7 @@ use Rattle.rule.specs.Calls.{admitted, checked}
 use Rattle.rule.specs.Numbers.{slotWidth}
 use Rattle.rule.specs.Room.{gapsGood, roomy, stepsGood}
 use Rattle.rule.specs.Table.{needed}
-use Rattle.settings.proofs.Bounds.{mostNeeded, needed-small}
+use Rattle.rooms.proofs.Bounds.{mostNeeded, needed-small}
 use Rattle.rule.proofs.Ruling.{flipped}
 use Rattle.admission.specs.Admission.{admission}
 use Rattle.admission.proofs.admit.Statement.{statement}

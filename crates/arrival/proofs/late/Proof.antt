@@ -10,10 +10,10 @@ use Rattle.rule.specs.Calls.{checked, isHeld, late}
 use Rattle.rule.specs.Numbers.{ticks}
 use Rattle.rule.specs.Room.{sound, tableOf}
 use Rattle.rule.specs.Table.{holding, runs}
-use Rattle.room.specs.Steps.{Placed, with}
+use Rattle.rooms.specs.Steps.{Placed, with}
 use Rattle.rule.proofs.Ruling.{flipped}
 use Rattle.arrival.specs.Arrivals.{met}
-use Rattle.arrival.proofs.Arriving.{Passed, late-filled, late-free, late-joins, late-left, late-placed, late-runs, late-truth}
+use Rattle.rooms.proofs.Arriving.{Passed, late-filled, late-free, late-joins, late-left, late-placed, late-runs, late-truth}
 use Rattle.arrival.proofs.late.Statement.{statement}
 use Rattle.arrival.proofs.late.Tie as tie
 

@@ -6,7 +6,7 @@ use mathlib.Core.Bool.{true, false}
 use Rattle.rule.specs.Calls.{checked, late}
 use Rattle.rule.specs.Numbers.{ticks}
 use Rattle.rule.specs.Room.{sound}
-use Rattle.room.proofs.Sounding.{sound-facts, sound-filled}
+use Rattle.rooms.proofs.Sounding.{sound-facts, sound-filled}
 use Rattle.rule.proofs.Ruling.{flipped}
 use Rattle.arrival.specs.Arrivals.{met}
 use Rattle.arrival.proofs.next.Statement.{statement}

@@ -4,8 +4,8 @@ use Prim.Native.Nat.{_-_}
 use mathlib.Core.Path.{sym}
 use Rattle.rule.specs.Room.{slots}
 use Rattle.rule.specs.Table.{lastEnd}
-use Rattle.slots.proofs.Reading.{filled}
-use Rattle.arrival.proofs.Following.{last-slot}
+use Rattle.rooms.proofs.Reading.{filled}
+use Rattle.rooms.proofs.Following.{last-slot}
 use borrow.Author.Needs.{needs}
 use Rattle.arrival.proofs.next_tick.Statement.{statement}
 use Rattle.arrival.proofs.next_tick.Tie as tie

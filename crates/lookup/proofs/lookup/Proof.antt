@@ -9,12 +9,12 @@ use Rattle.rule.specs.Calls.{checked, found, foundOf, isHeld, lookupOutcome}
 use Rattle.rule.specs.Numbers.{ticks}
 use Rattle.rule.specs.Room.{sound, tableOf}
 use Rattle.rule.specs.Table.{holding}
-use Rattle.room.specs.Steps.{Placed}
-use Rattle.room.proofs.Placing.{filled-before}
-use Rattle.slots.proofs.Reading.{filled}
-use Rattle.room.proofs.Sounding.{sound-facts, sound-filled}
+use Rattle.rooms.specs.Steps.{Placed}
+use Rattle.rooms.proofs.Placing.{filled-before}
+use Rattle.rooms.proofs.Reading.{filled}
+use Rattle.rooms.proofs.Sounding.{sound-facts, sound-filled}
 use Rattle.rule.proofs.Ruling.{flipped}
-use Rattle.room.proofs.Finding.{before-holds, not-held, past-first, sound-placed}
+use Rattle.rooms.proofs.Finding.{before-holds, not-held, past-first, sound-placed}
 use Rattle.lookup.proofs.lookup.Statement.{statement}
 use Rattle.lookup.proofs.lookup.Tie as tie
 

@@ -2,7 +2,7 @@
 use Prim.Native.Nat.{_-_}
 use native.Mathlib.Omega.{arith}
 use Rattle.rule.specs.Room.{zeros}
-use Rattle.slots.proofs.Shifting.{Copied, cleared-start, cleared-step, copied-end}
+use Rattle.rooms.proofs.Shifting.{Copied, cleared-start, cleared-step, copied-end}
 use Rattle.moves.proofs.clear.Statement.{statement}
 use Rattle.moves.proofs.clear.Tie as tie
 

@@ -6,7 +6,7 @@ use borrow.Author.Needs.{needs}
 use mir.Syntax.{w64}
 use Rattle.rule.specs.Numbers.{slotWidth}
 use Rattle.rule.proofs.Signed.{read}
-use Rattle.slots.proofs.Shifting.{Copied, between, lowered-start, lowered-step, lowered-end}
+use Rattle.rooms.proofs.Shifting.{Copied, between, lowered-start, lowered-step, lowered-end}
 use Rattle.moves.proofs.close.Statement.{statement}
 use Rattle.moves.proofs.close.Tie as tie
 

@@ -1,6 +1,6 @@
 -- `moves::insert` meets its contract.
 use borrow.Author.Needs.{needs}
-use Rattle.slots.proofs.Laying.{inserted}
+use Rattle.rooms.proofs.Laying.{inserted}
 use Rattle.moves.proofs.insert.Statement.{statement}
 use Rattle.moves.proofs.insert.Tie as tie
 

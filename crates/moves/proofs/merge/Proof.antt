@@ -2,8 +2,8 @@
 use Prim.Native.Nat.{_+_}
 use native.Mathlib.Omega.{arith}
 use borrow.Author.Needs.{needs}
-use Rattle.slots.proofs.Laying.{merged, pair-counts}
-use Rattle.slots.proofs.Reading.{filled}
+use Rattle.rooms.proofs.Laying.{merged, pair-counts}
+use Rattle.rooms.proofs.Reading.{filled}
 use Rattle.moves.proofs.merge.Statement.{statement}
 use Rattle.moves.proofs.merge.Tie as tie
 

@@ -3,7 +3,7 @@ use native.Mathlib.Omega.{arith}
 use mir.Syntax.{w64}
 use Rattle.rule.specs.Numbers.{slotWidth}
 use Rattle.rule.proofs.Signed.{read}
-use Rattle.slots.proofs.Shifting.{Raised, raised-start, raised-step, raised-end}
+use Rattle.rooms.proofs.Shifting.{Raised, raised-start, raised-step, raised-end}
 use Rattle.moves.proofs.widen.Statement.{statement}
 use Rattle.moves.proofs.widen.Tie as tie
 

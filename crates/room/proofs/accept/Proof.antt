@@ -3,8 +3,8 @@ use borrow.Author.Needs.{needs}
 use native.Mathlib.Omega.{arith}
 use native.Mathlib.Numerals.{add-one}
 use mir.Facts.{toZ-ofZ}
-use Rattle.room.proofs.Sounding.{sound-facts, sound-filled, used-needed}
-use Rattle.room.proofs.Taking.{can-settle, taken-room, taken-used}
+use Rattle.rooms.proofs.Sounding.{sound-facts, sound-filled, used-needed}
+use Rattle.rooms.proofs.Taking.{can-settle, taken-room, taken-used}
 use Rattle.room.proofs.accept.Statement.{statement}
 use Rattle.room.proofs.accept.Tie as tie
 

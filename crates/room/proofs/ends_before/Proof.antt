@@ -2,7 +2,7 @@
 use Prim.Native.Nat.{_-_}
 use native.Mathlib.Omega.{arith}
 use borrow.Author.Tests.{lt-ltb}
-use Rattle.slots.proofs.Reading.{filled}
+use Rattle.rooms.proofs.Reading.{filled}
 use borrow.Author.Needs.{needs}
 use Rattle.room.proofs.ends_before.Statement.{statement}
 use Rattle.room.proofs.ends_before.Tie as tie

@@ -1,7 +1,7 @@
 -- `room::find` meets its contract: the buckets passed, and those behind that start no later, are all.
 use Prim.Native.Nat.{_-_}
 use native.Mathlib.Omega.{arith}
-use Rattle.room.proofs.Placing.{Sought, sought-start, sought-stop, sought-next, sought-end}
+use Rattle.rooms.proofs.Placing.{Sought, sought-start, sought-stop, sought-next, sought-end}
 use Rattle.room.proofs.find.Statement.{statement}
 use Rattle.room.proofs.find.Tie as tie
 

@@ -3,8 +3,8 @@ use Prim.Native.Nat.{_-_}
 use mathlib.Core.Path.{sym, ap}
 use native.Mathlib.Omega.{arith}
 use Rattle.rule.specs.Calls.{isHeld}
-use Rattle.room.proofs.Placing.{filled-before, slot-first, slot-held}
-use Rattle.slots.proofs.Reading.{filled}
+use Rattle.rooms.proofs.Placing.{filled-before, slot-first, slot-held}
+use Rattle.rooms.proofs.Reading.{filled}
 use borrow.Author.Needs.{needs}
 use Rattle.room.proofs.held.Statement.{statement}
 use Rattle.room.proofs.held.Tie as tie

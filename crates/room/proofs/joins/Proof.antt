@@ -1,6 +1,6 @@
 -- `room::joins` meets its contract.
 use native.Mathlib.Omega.{arith}
-use Rattle.room.proofs.Placing.{byte-small, filled-before, slot-joins}
+use Rattle.rooms.proofs.Placing.{byte-small, filled-before, slot-joins}
 use borrow.Author.Needs.{needs}
 use Rattle.room.proofs.joins.Statement.{statement}
 use Rattle.room.proofs.joins.Tie as tie

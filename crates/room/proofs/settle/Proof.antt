@@ -1,6 +1,6 @@
 -- `room::settle` meets its contract. The loop's invariant: the buckets that are left settle to the same table.
 use native.Mathlib.Omega.{arith}
-use Rattle.room.proofs.Merges.{Merged, merged-end, merged-same-length, merged-place, merged-start, merged-step}
+use Rattle.rooms.proofs.Merges.{Merged, merged-end, merged-same-length, merged-place, merged-start, merged-step}
 use Rattle.room.proofs.settle.Statement.{statement}
 use Rattle.room.proofs.settle.Tie as tie
 

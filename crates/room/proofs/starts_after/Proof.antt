@@ -1,7 +1,7 @@
 -- `room::starts_after` meets its contract.
 use native.Mathlib.Numerals.{add-one}
 use borrow.Author.Tests.{le-ltb, lt-ltb}
-use Rattle.slots.proofs.Reading.{filled}
+use Rattle.rooms.proofs.Reading.{filled}
 use borrow.Author.Needs.{needs}
 use Rattle.room.proofs.starts_after.Statement.{statement}
 use Rattle.room.proofs.starts_after.Tie as tie

@@ -5,7 +5,7 @@ use mathlib.Core.Path.{_≡_}
 use mathlib.Core.Bool.{true}
 use Rattle.rule.specs.Calls.{checked, writeVerdict}
 use Rattle.rule.specs.Room.{sound}
-use Rattle.slots.proofs.Laying.{length-slots}
+use Rattle.rooms.proofs.Laying.{length-slots}
 use Rattle.rule.proofs.Ruling.{flipped}
 use Rattle.row.specs.Answers.{answer}
 use Rattle.row.proofs.written.Statement.{statement}

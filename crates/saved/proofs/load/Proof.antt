@@ -10,13 +10,15 @@ use Rattle.rule.specs.Bytes.{recordsOf}
 use Rattle.rule.specs.Calls.{kept, traced}
 use Rattle.rule.specs.Room.{laid}
 use Rattle.rule.specs.Table.{needed, readings, runs}
-use Rattle.faults.proofs.Faults.{length-file}
-use Rattle.settings.proofs.Bounds.{mostNeeded, needed-small}
+use Rattle.files.proofs.Records.{length-file}
+use Rattle.rooms.proofs.Bounds.{mostNeeded, needed-small}
 use Rattle.trace.specs.declared.Answer.the-variants.{Accepted}
 use Rattle.trace.specs.Answers.{answer}
 use Rattle.rule.specs.Calls.{fileVerdict}
-use Rattle.saved.proofs.Filing.{Loads, cleared, file-loads, inspect-counts, inspect-refuses, loaded-length, loads-needed}
-use Rattle.admission.proofs.Granting.{Granted, admit-grants, admit-refuses, admits}
+use Rattle.files.proofs.Filing.{Loads, cleared, file-loads, loaded-length, loads-needed}
+use Rattle.saved.proofs.Inspecting.{inspect-counts, inspect-refuses}
+use Rattle.rooms.proofs.Granting.{Granted, admits}
+use Rattle.admission.proofs.Admitting.{admit-grants, admit-refuses}
 use Rattle.saved.proofs.load.Statement.{statement}
 use Rattle.saved.proofs.load.Tie as tie
 

@@ -9,10 +9,10 @@ use lib.ListN.{length}
 use Rattle.rule.specs.Numbers.{recordWidth}
 use Rattle.rule.specs.Calls.{checked, writeVerdict, wrote}
 use Rattle.rule.specs.Room.{sound}
-use Rattle.room.proofs.Sounding.{sound-facts, sound-filled, used-needed}
-use Rattle.settings.proofs.Bounds.{needed-small}
+use Rattle.rooms.proofs.Sounding.{sound-facts, sound-filled, used-needed}
+use Rattle.rooms.proofs.Bounds.{needed-small}
 use Rattle.rule.proofs.Ruling.{flipped}
-use Rattle.saved.proofs.Filing.{save-writes}
+use Rattle.files.proofs.Filing.{save-writes}
 use Rattle.saved.proofs.save.Statement.{statement}
 use Rattle.saved.proofs.save.Tie as tie
 

@@ -5,8 +5,8 @@ use native.Mathlib.Omega.{arith}
 use native.Mathlib.Numerals.{add-one}
 use Rattle.rule.specs.Bytes.{saved}
 use Rattle.rule.specs.Room.{slots}
-use Rattle.slots.proofs.Reading.{filled}
-use Rattle.saved.proofs.Filing.{saved-length, saved-next, savedUpTo}
+use Rattle.rooms.proofs.Reading.{filled}
+use Rattle.files.proofs.Filing.{saved-length, saved-next, savedUpTo}
 use Rattle.saved.proofs.save_slots.Statement.{statement}
 use Rattle.saved.proofs.save_slots.Tie as tie
 

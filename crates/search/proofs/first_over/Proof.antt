@@ -11,8 +11,8 @@ use Rattle.rule.specs.Calls.{checked}
 use Rattle.rule.specs.Numbers.{ticks}
 use Rattle.rule.specs.Room.{sound}
 use Rattle.rule.proofs.Ruling.{flipped}
-use Rattle.room.proofs.Sounding.{sound-facts, sound-filled}
-use Rattle.slots.proofs.Reading.{filled}
+use Rattle.rooms.proofs.Sounding.{sound-facts, sound-filled}
+use Rattle.rooms.proofs.Reading.{filled}
 use Rattle.search.proofs.first_over.Statement.{statement}
 use Rattle.search.proofs.first_over.Tie as tie
 

@@ -3,9 +3,9 @@ use Prim.Native.Nat.{_*_}
 use mathlib.Core.Path.{sym}
 use native.Mathlib.Omega.{arith}
 use borrow.Author.Needs.{needs}
-use Rattle.room.proofs.Sounding.{Facts, sound-facts, sound-filled}
-use Rattle.slots.specs.Slots.{Filled}
-use Rattle.slots.proofs.Laying.{length-slots}
+use Rattle.rooms.proofs.Sounding.{Facts, sound-facts, sound-filled}
+use Rattle.rooms.specs.Slots.{Filled}
+use Rattle.rooms.proofs.Laying.{length-slots}
 use Rattle.notation.specs.Printing.{lineRoom, listing}
 use Rattle.notation.proofs.Texts.{room-left, then}
 use Rattle.showing.proofs.Showing.{rows-short}

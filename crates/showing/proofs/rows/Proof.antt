@@ -6,7 +6,7 @@ use native.Mathlib.Omega.{arith}
 use lib.ListN.{length}
 use lib.Seq.{length-sets}
 use Rattle.rule.specs.Room.{slots}
-use Rattle.slots.proofs.Reading.{filled}
+use Rattle.rooms.proofs.Reading.{filled}
 use Rattle.notation.specs.Printing.{Printed, lineRoom, rows}
 use Rattle.notation.proofs.Texts.{room-left, then}
 use Rattle.showing.proofs.Showing.{rows-next, rows-short}

@@ -3,8 +3,8 @@ use Prim.Native.Nat.{_+_, _-_}
 use native.Mathlib.Omega.{arith}
 use borrow.Author.Needs.{needs}
 use mathlib.Core.Logic.{⊎-elim}
-use Rattle.slots.proofs.Reading.{filled}
-use Rattle.slots.proofs.Scoring.{Scored, scored-start, scored-end, scored-kept, scored-taken}
+use Rattle.rooms.proofs.Reading.{filled}
+use Rattle.rooms.proofs.Scoring.{Scored, scored-start, scored-end, scored-kept, scored-taken}
 use Rattle.slots.proofs.cheapest.Statement.{statement}
 use Rattle.slots.proofs.cheapest.Tie as tie
 

@@ -1,7 +1,7 @@
 -- `slots::price` meets its contract.
 use borrow.Author.Needs.{needs}
 use Rattle.rule.specs.Table.{choice}
-use Rattle.slots.specs.Slots.{costOf}
+use Rattle.rooms.specs.Slots.{costOf}
 use Rattle.slots.proofs.price.Statement.{statement}
 use Rattle.slots.proofs.price.Tie as tie
 

@@ -4,7 +4,7 @@ use borrow.Author.Needs.{needs}
 use mir.Syntax.{w64}
 use Rattle.rule.specs.Room.{slot}
 use Rattle.rule.proofs.Signed.{narrows, narrowed, signed-fits}
-use Rattle.slots.proofs.Reading.{Ranges, ranges, unsigned-casts, unsigned-held}
+use Rattle.rooms.proofs.Reading.{Ranges, ranges, unsigned-casts, unsigned-held}
 use Rattle.slots.proofs.read.Statement.{statement}
 use Rattle.slots.proofs.read.Tie as tie
 

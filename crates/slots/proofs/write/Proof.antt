@@ -7,7 +7,7 @@ use mir.Syntax.{w32, w64}
 use mir.Val.{SFits}
 use mir.Facts.{toZ-pos}
 use Rattle.rule.proofs.Signed.{widens, widened}
-use Rattle.slots.proofs.Reading.{stored}
+use Rattle.rooms.proofs.Reading.{stored}
 use Rattle.slots.proofs.write.Statement.{statement}
 use Rattle.slots.proofs.write.Tie as tie
 

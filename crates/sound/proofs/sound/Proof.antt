@@ -9,7 +9,7 @@ use Rattle.rule.specs.Numbers.{slotWidth}
 use Rattle.rule.specs.Room.{allOf, restZero, roomy}
 use Rattle.rule.specs.Table.{limit, needed}
 use Rattle.rule.proofs.Ruling.{flipped}
-use Rattle.settings.proofs.Bounds.{mostAllowed}
+use Rattle.rooms.proofs.Bounds.{mostAllowed}
 use Rattle.sound.proofs.Scanning.{scanned}
 use Rattle.sound.proofs.Clauses.{Limits, limits, sound-tests, unsound}
 use borrow.Author.Needs.{needs}

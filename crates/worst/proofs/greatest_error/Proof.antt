@@ -6,7 +6,7 @@ use native.Mathlib.Omega.{arith}
 use borrow.Author.Needs.{needs}
 use Rattle.rule.specs.Bucket.{error}
 use Rattle.rule.specs.Room.{slot}
-use Rattle.slots.proofs.Reading.{filled}
+use Rattle.rooms.proofs.Reading.{filled}
 use Rattle.worst.proofs.Looking.{Found, found-end, found-next, found-start}
 use Rattle.worst.proofs.greatest_error.Statement.{statement}
 use Rattle.worst.proofs.greatest_error.Tie as tie

@@ -2,11 +2,10 @@
 use borrow.Author.Needs.{needs}
 use mathlib.Core.Path.{_≡_}
 use mathlib.Core.Bool.{true}
-use Rattle.rule.specs.Calls.{checked}
+use Rattle.rule.specs.Calls.{checked, measured, worstOutcome}
 use Rattle.rule.specs.Room.{sound}
 use Rattle.rule.proofs.Ruling.{flipped}
-use Rattle.room.proofs.Sounding.{sound-facts, sound-filled}
-use Rattle.worst.specs.Outcome.{measured, worstOutcome}
+use Rattle.rooms.proofs.Sounding.{sound-facts, sound-filled}
 use Rattle.worst.proofs.worst.Statement.{statement}
 use Rattle.worst.proofs.worst.Tie as tie
 

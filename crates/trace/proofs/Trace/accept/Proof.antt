@@ -3,8 +3,8 @@ use borrow.Author.Needs.{needs}
 use native.Mathlib.Omega.{arith}
 use mathlib.Core.Path.{sym}
 use mir.Facts.{toZ-ofZ}
-use Rattle.room.proofs.Sounding.{sound-facts, sound-readings}
-use Rattle.room.proofs.Taking.{taken-state}
+use Rattle.rooms.proofs.Sounding.{sound-facts, sound-readings}
+use Rattle.rooms.proofs.Taking.{taken-state}
 use Rattle.trace.proofs.Trace.accept.Statement.{statement}
 use Rattle.trace.proofs.Trace.accept.Tie as tie
 

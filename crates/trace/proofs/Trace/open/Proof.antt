@@ -7,9 +7,10 @@ use mathlib.Core.Path.{_≡_, sym, _∙_}
 use Rattle.rule.specs.Calls.{kept, traced}
 use Rattle.rule.specs.Room.{flat, laid}
 use Rattle.rule.specs.Table.{needed, readings, runs}
-use Rattle.settings.proofs.Bounds.{mostNeeded, needed-small}
+use Rattle.rooms.proofs.Bounds.{mostNeeded, needed-small}
 use Rattle.trace.specs.Answers.{answer}
-use Rattle.admission.proofs.Granting.{Granted, admit-grants, admit-refuses, admits}
+use Rattle.rooms.proofs.Granting.{Granted, admits}
+use Rattle.admission.proofs.Admitting.{admit-grants, admit-refuses}
 use Rattle.trace.proofs.Trace.open.Statement.{statement}
 use Rattle.trace.proofs.Trace.open.Tie as tie
 

@@ -1,2 +1,0 @@
--- What a saved file's pass answers.
-pub mod Files

@@ -1,2 +1,0 @@
--- What a file is.
-pub mod Bytes

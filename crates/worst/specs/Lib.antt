@@ -1,2 +1,0 @@
--- What the worst error of a trace answers.
-pub mod Outcome

@@ -33,7 +33,7 @@ use Rattle.rooms.proofs.Sounding.{sound-facts, used-needed}
 use Rattle.rooms.proofs.Taking.{taken-short}
 use Rattle.rooms.proofs.Leaving.{late-either, next-either, open-either}
 use Rattle.over.specs.Search.{firstOver, searchOutcome, sought, soughtOf}
-use Rattle.files.proofs.Filing.{load-accepts, load-leaves, loads-needed}
+use Rattle.storage.proofs.Filing.{load-accepts, load-leaves, loads-needed}
 use Rattle.answered.proofs.Outcomes.{traced-refused}
 use Rattle.rule.proofs.Whole.{by-test}
 use Rattle.answered.specs.Answered.{Answered, Demand1, Lawful, Row, fileRows, firstOf, lateRows, lookupRows, nextRows, openRows, outside, refusing, said, slotsNeeded, saidFound, saidMeasured, saidSought, saidWritten, searchRows, worstRows, writeRows}

@@ -14,7 +14,7 @@ use Rattle.rule.specs.Calls.{Verdict, accepted, late, nextOutcome, refused, sav
 use Rattle.rule.specs.Numbers.{recordWidth}
 use Rattle.rule.specs.declared.Written.{Written}
 use Rattle.rule.specs.Bytes.{saved}
-use Rattle.files.proofs.RoundTrip.{length-saved}
+use Rattle.storage.proofs.RoundTrip.{length-saved}
 use Rattle.rule.specs.Room.{laid, tableOf}
 use Rattle.rule.specs.Table.{Table, needed}
 use Rattle.rooms.proofs.Writing.{write-either}

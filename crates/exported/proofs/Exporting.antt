@@ -28,7 +28,7 @@ use Rattle.rule.specs.Room.{allOf, clauses, sound, stepsGood, tableOf}
 use Rattle.rule.specs.Table.{Table, holders, holding, holds, needed, worst}
 use Rattle.rule.proofs.Whole.{by-test, whole}
 use Rattle.rule.proofs.Tables.{held-within, one}
-use Rattle.files.proofs.RoundTrip.{length-saved}
+use Rattle.storage.proofs.RoundTrip.{length-saved}
 use Rattle.rooms.proofs.Laying.{length-slots}
 use Rattle.rooms.proofs.Placing.{held-counts}
 use Rattle.rooms.proofs.Sounding.{sound-facts, sound-ordered}
@@ -38,7 +38,7 @@ use Rattle.over.specs.Promise.{First, Over, allOver, answerOf}
 use Rattle.over.specs.Search.{searchOutcome, soughtOf}
 use Rattle.over.proofs.Searching as searching
 use Rattle.rule.specs.declared.Measured.{Measured}
-use Rattle.files.proofs.RoundTrips.{loaded-saved, saved-loaded}
+use Rattle.storage.proofs.RoundTrips.{loaded-saved, saved-loaded}
 use Rattle.demands.specs.History.{Reading, arrived, tableAfter}
 use Rattle.demands.specs.Served.{Inside}
 use Rattle.plain.specs.declared.Counted.{Counted}

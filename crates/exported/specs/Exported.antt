@@ -17,7 +17,7 @@ use Rattle.rule.specs.Calls.{kept, late}
 use Rattle.rule.specs.Files.{FirstBroken}
 use Rattle.rule.specs.Room.{signed, sound, tableOf}
 use Rattle.rule.specs.Table.{Table, holds, worst}
-use Rattle.files.specs.Bytes.{AllBytes}
+use Rattle.storage.specs.Bytes.{AllBytes}
 use Rattle.over.specs.Promise.{First, Over, allOver, answerOf}
 use Rattle.demands.specs.Curve as curve
 use Rattle.demands.specs.Curve.{Curve}

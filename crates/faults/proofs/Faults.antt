@@ -20,7 +20,7 @@ use Rattle.rule.proofs.Fitting.{Fitted}
 use Rattle.rules.specs.Numbered.{meets}
 use Rattle.rules.proofs.Numbered.{met}
 use Rattle.rule.proofs.Ruling.{ordered-readings, ruled-end, ruled-facts, ruled-ordered}
-use Rattle.files.proofs.Records.{length-file}
+use Rattle.storage.proofs.Records.{length-file}
 
 -- ---- the pass
 

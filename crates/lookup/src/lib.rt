@@ -2,8 +2,8 @@
 ghost use mathlib.Core.Option.{some};
 ghost use mathlib.Core.Path.{_≡_};
 ghost use Rattle.rule.specs.Calls.{found, lookupOutcome};
-use room::find;
-use room::held;
+use place::find;
+use place::held;
 use rule::Bucket;
 use rule::Found;
 use rule::Refusal;

@@ -8,7 +8,7 @@ use lib.Dec.{ltb}
 use lib.IntN.{pos, negsuc}
 use lib.ListN.{getD}
 use Rattle.rule.proofs.Ruling.{and-left, and-right}
-use Rattle.files.specs.Bytes.{AllBytes}
+use Rattle.storage.specs.Bytes.{AllBytes}
 use native.Mathlib.Omega.{arith}
 use Rattle.rule.specs.Bucket.{distance, larger, lesser, middle}
 use Rattle.rule.specs.Table.{accept, cheaper, cheapest, choice, holding, holds, insert, lastEnd, limitOver, merge, mergeAt, mergeOf, readings, runs, runsAfter, settle, settleIn, worst}

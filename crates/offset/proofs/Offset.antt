@@ -28,13 +28,13 @@ use Rattle.rule.specs.Rules.{ruled}
 use Rattle.rule.proofs.Errors.{error-is-half}
 use Rattle.rule.proofs.Fitting.{Fitted}
 use Rattle.rule.proofs.Whole.{whole, by-test, middle-down, middle-up, one-side, sum}
-use Rattle.files.proofs.RoundTrip.{length-saved, records-saved}
+use Rattle.storage.proofs.RoundTrip.{length-saved, records-saved}
 use Rattle.rooms.proofs.Sounding.{sound-facts}
 use Rattle.rooms.proofs.Writing.{write-either}
 use Rattle.rooms.proofs.Fitting.{fitted-slots}
 use Rattle.rooms.proofs.Laying.{slots-laid}
-use Rattle.files.specs.Bytes.{AllBytes}
-use Rattle.files.proofs.RoundTrips.{load-sound}
+use Rattle.storage.specs.Bytes.{AllBytes}
+use Rattle.storage.proofs.RoundTrips.{load-sound}
 use Rattle.rooms.specs.Left.{LeavesSound, LeftBy}
 use Rattle.rooms.proofs.Leaving.{late-leaves, next-leaves, open-leaves}
 use Rattle.over.specs.Search.{searchOutcome}

@@ -15,7 +15,7 @@ use Rattle.rule.specs.Bucket.{error, level, spread}
 use Rattle.rule.specs.Bytes.{recordsOf}
 use Rattle.rule.specs.Room.{signed, sound, tableOf}
 use Rattle.rule.specs.Table.{Table, worst}
-use Rattle.files.specs.Bytes.{AllBytes}
+use Rattle.storage.specs.Bytes.{AllBytes}
 use Rattle.over.specs.Search.{searchOutcome}
 use Rattle.offset.specs.Caller.{Answer, Call, Caller, after, answer, answers, drawn, filed, idle, lates, left, loads, lookups, measured, nexts, opens, pointed, rows, saves, searches, shown, traced, worsts}
 

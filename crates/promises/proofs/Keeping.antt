@@ -33,8 +33,8 @@ use Rattle.rule.proofs.Signed.{signed-fits}
 use Rattle.rooms.proofs.Sounding.{sound-facts, sound-ordered}
 use Rattle.rooms.proofs.Bounds.{steps-bounds}
 use Rattle.rooms.specs.Left.{LeavesSound, LeftBy}
-use Rattle.files.proofs.Filing.{save-writes}
-use Rattle.files.proofs.RoundTrips.{loaded-saved, saved-accepted, saved-loaded, saved-loaded-slots}
+use Rattle.storage.proofs.Filing.{save-writes}
+use Rattle.storage.proofs.RoundTrips.{loaded-saved, saved-accepted, saved-loaded, saved-loaded-slots}
 use Rattle.rooms.proofs.Arriving.{late-free}
 use Rattle.rooms.proofs.Leaving.{late-either, late-leaves, next-either, next-leaves, open-either, open-leaves}
 use Rattle.demands.specs.History.{Accepted, Reading, Takes, arrived, runsOf, tableAfter}

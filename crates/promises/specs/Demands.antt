@@ -15,7 +15,7 @@ use Rattle.rule.specs.Bytes.{saved}
 use Rattle.rule.specs.Calls.{accepted, kept, late, loaded, lookupOutcome, saveOutcome}
 use Rattle.rule.specs.Room.{sound, tableOf}
 use Rattle.rule.specs.Table.{holders, holds, limit, nextTick, worst}
-use Rattle.files.specs.Bytes.{AllBytes}
+use Rattle.storage.specs.Bytes.{AllBytes}
 use Rattle.demands.specs.Curve.{Curve, steps}
 use Rattle.demands.specs.History.{Reading, arrived, runsOf, tableAfter}
 use Rattle.demands.specs.Served.{Extremes, Near}

@@ -4,7 +4,7 @@ ghost use Prim.Native.Nat.{_*_, _≤_, suc};
 ghost use lib.ListN.{length};
 ghost use Rattle.rule.specs.Numbers.{recordWidth};
 ghost use Rattle.rule.specs.Bytes.{recordAt};
-ghost use Rattle.files.specs.Files.{put};
+ghost use Rattle.storage.specs.Files.{put};
 use rule::Bucket;
 use rule::RECORD;
 use words::bits;

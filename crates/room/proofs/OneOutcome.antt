@@ -1,22 +1,8 @@
--- Each public function's contract allows one outcome.
-use mathlib.Core.Path.{refl, sym, ap, _∙_}
-use native.Mathlib.Omega.{arith}
-use lib.IntN.{pos}
+-- The public function's contract allows one outcome.
+use mathlib.Core.Path.{sym, ap, _∙_}
 use Rattle.rule.specs.Outcomes.{OneOutcome}
-use Rattle.rule.proofs.Determined.{both, by-result}
+use Rattle.rule.proofs.Determined.{both}
 use Rattle.room.proofs.accept as accept
-use Rattle.room.proofs.find as find
-use Rattle.room.proofs.held as held
-use Rattle.room.proofs.joins as joins
 
 pub accept-one : OneOutcome accept.ended (λ M. accept.clauses)
 accept-one M 𝓤 H A mem run κs a g r r′ l l′ = both 𝓤 (λ p q. (p .0 ∙ sym (q .0), ap (λ x. (l .0, (x, l .1 .1))) (p .1 ∙ sym (q .1))))
-
-pub find-one : OneOutcome find.ended (λ M. find.clauses)
-find-one M 𝓤 H A mem run κs a g r r′ l l′ = by-result 𝓤
-
-pub held-one : OneOutcome held.ended (λ M. held.clauses)
-held-one M 𝓤 H A mem run κs a g r r′ l l′ = by-result 𝓤
-
-pub joins-one : OneOutcome joins.ended (λ M. joins.clauses)
-joins-one M 𝓤 H A mem run κs a g r r′ l l′ = both 𝓤 (λ p q. (omega (arith, p (pos 0), q (pos 0)), refl))

@@ -85,6 +85,7 @@ opened s l = traced (kept s) l (admitted (kept s) l (accepted []))
 
 -- ---- readings: 4, 5, 6, 11, 9
 
+-- what the next reading of a trace in order is refused for
 abbrev pub nextChecks : State → List ℤ → List Check
 nextChecks s l =
     (not (sound s l), Refusal.Unsound)
@@ -102,6 +103,7 @@ unfoldable pub isHeld : Option Bucket → Bool
 isHeld none = false
 isHeld (some b) = true
 
+-- what a reading of a late trace is refused for
 abbrev pub lateChecks : State → List ℤ → ℕ → ℤ → List Check
 lateChecks s l tick v =
     (not (sound s l), Refusal.Unsound)

@@ -11,7 +11,7 @@ use Rattle.rule.specs.Calls.{Verdict, refused, accepted, fileVerdict}
 use Rattle.rule.specs.Table.{Table, readings, runs}
 use Rattle.faults.specs.declared.Inspected.{Inspected}
 use Rattle.faults.specs.Verdicts.{inspection}
-use Rattle.files.proofs.Filing.{Loads, file-either}
+use Rattle.storage.proofs.Filing.{Loads, file-either}
 
 pub inspect-refuses : (v : Verdict Table) (r : Refusal) → inspection v ≡ Inspected.Refused r → v ≡ refused r
 unfolding inspection

@@ -8,7 +8,7 @@ use lib.ListN.{length}
 use Rattle.rule.specs.Numbers.{recordWidth, ticks, word}
 use Rattle.rules.proofs.Numbered.{at-most-one}
 use Rattle.faults.proofs.Faults.{readings-done, readings-next, readings-whole, readingsLeft, runs-done, runs-next, runs-whole, runsLeft}
-use Rattle.files.proofs.RoundTrip.{file-fitted}
+use Rattle.storage.proofs.RoundTrip.{file-fitted}
 use Rattle.faults.proofs.counts.Statement.{statement}
 use Rattle.faults.proofs.counts.Tie as tie
 

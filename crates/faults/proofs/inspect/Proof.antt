@@ -14,7 +14,7 @@ use Rattle.rule.specs.Room.{runsAllowed}
 use Rattle.rule.specs.Rules.{firstFault, isWhole, ruled}
 use Rattle.rule.specs.Table.{limit, runs}
 use Rattle.faults.proofs.Faults.{file-refused, file-whole}
-use Rattle.files.proofs.Records.{length-file}
+use Rattle.storage.proofs.Records.{length-file}
 use Rattle.rooms.proofs.Bounds.{limit-gaps, needed-small}
 use Rattle.rule.proofs.Ruling.{flipped}
 use Rattle.faults.specs.declared.Inspected.the-variants.{Counts}

@@ -3,7 +3,7 @@ use borrow.Author.Needs.{needs}
 use denote.Ref.{now}
 use mir.Syntax.{w32}
 use Rattle.rule.proofs.Signed.{read}
-use Rattle.files.proofs.RoundTrip.{put-words}
+use Rattle.storage.proofs.RoundTrip.{put-words}
 use Rattle.record.proofs.write.Statement.{statement}
 use Rattle.record.proofs.write.Tie as tie
 

@@ -5,7 +5,7 @@ use native.Mathlib.Omega.{arith}
 use native.Mathlib.Numerals.{add-one}
 use Rattle.rule.specs.Bytes.{records}
 use Rattle.rule.specs.Room.{flat}
-use Rattle.files.proofs.Filing.{loaded-length, loaded-next, loadedUpTo}
+use Rattle.storage.proofs.Filing.{loaded-length, loaded-next, loadedUpTo}
 use Rattle.saved.proofs.load_slots.Statement.{statement}
 use Rattle.saved.proofs.load_slots.Tie as tie
 

@@ -12,7 +12,7 @@ use Rattle.rule.specs.Room.{sound}
 use Rattle.rooms.proofs.Sounding.{sound-facts, sound-filled, used-needed}
 use Rattle.rooms.proofs.Bounds.{needed-small}
 use Rattle.rule.proofs.Ruling.{flipped}
-use Rattle.files.proofs.Filing.{save-writes}
+use Rattle.storage.proofs.Filing.{save-writes}
 use Rattle.saved.proofs.save.Statement.{statement}
 use Rattle.saved.proofs.save.Tie as tie
 

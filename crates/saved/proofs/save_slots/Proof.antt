@@ -6,7 +6,7 @@ use native.Mathlib.Numerals.{add-one}
 use Rattle.rule.specs.Bytes.{saved}
 use Rattle.rule.specs.Room.{slots}
 use Rattle.rooms.proofs.Reading.{filled}
-use Rattle.files.proofs.Filing.{saved-length, saved-next, savedUpTo}
+use Rattle.storage.proofs.Filing.{saved-length, saved-next, savedUpTo}
 use Rattle.saved.proofs.save_slots.Statement.{statement}
 use Rattle.saved.proofs.save_slots.Tie as tie
 

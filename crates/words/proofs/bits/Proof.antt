@@ -8,7 +8,7 @@ use mir.Facts.{toZ-ofZ}
 use Rattle.rule.specs.Numbers.{word}
 use Rattle.rule.specs.Bytes.{bits}
 use Rattle.rule.proofs.Signed.{widened, widens}
-use Rattle.files.proofs.Words.{below-zero, bits-fit, not-below-zero}
+use Rattle.storage.proofs.Words.{below-zero, bits-fit, not-below-zero}
 use Rattle.words.proofs.bits.Statement.{statement}
 use Rattle.words.proofs.bits.Tie as tie
 

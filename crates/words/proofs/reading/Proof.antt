@@ -10,7 +10,7 @@ use mir.Facts.{sfits-widen, toZ-pos}
 use Rattle.rule.specs.Numbers.{word}
 use Rattle.rule.specs.Bytes.{reading}
 use Rattle.rule.proofs.Signed.{narrowed, narrows}
-use Rattle.files.proofs.Words.{reading-fits, reading-is, upper}
+use Rattle.storage.proofs.Words.{reading-fits, reading-is, upper}
 use Rattle.words.proofs.reading.Statement.{statement}
 use Rattle.words.proofs.reading.Tie as tie
 

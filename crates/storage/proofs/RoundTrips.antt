@@ -19,14 +19,14 @@ use Rattle.rule.specs.Numbers.{recordWidth, slotWidth}
 use Rattle.rule.specs.Room.{flat, gapsGood, laid, restZero, sound, tableOf, zeros}
 use Rattle.rule.specs.Table.{Table, needed, readings, runs}
 use Rattle.rule.proofs.Ruling.{Ruled}
-use Rattle.files.proofs.Records.{length-file}
-use Rattle.files.proofs.RoundTrip.{file-fitted, length-saved, records-saved, saved-records}
+use Rattle.storage.proofs.Records.{length-file}
+use Rattle.storage.proofs.RoundTrip.{file-fitted, length-saved, records-saved, saved-records}
 use Rattle.rooms.proofs.Fitting.{fitted-slots}
 use Rattle.rooms.proofs.Laying.{flat-slots, laid-more, laid-over, length-flat, length-slots, slots-laid}
 use Rattle.rooms.proofs.Sounding.{Facts, facts-sound, laid-facts, sound-facts, sound-filled, used-needed}
-use Rattle.files.specs.Bytes.{AllBytes}
+use Rattle.storage.specs.Bytes.{AllBytes}
 use Rattle.rooms.proofs.Leaving.{none-allowed}
-use Rattle.files.proofs.Filing.{Loads, file-loads, load-accepts, load-leaves, save-writes}
+use Rattle.storage.proofs.Filing.{Loads, file-loads, load-accepts, load-leaves, save-writes}
 use Rattle.rooms.proofs.Granting.{Granted}
 
 -- ---- saved, then loaded

@@ -1,10 +1,10 @@
--- `room::starts_after` meets its contract.
+-- `place::starts_after` meets its contract.
 use native.Mathlib.Numerals.{add-one}
 use borrow.Author.Tests.{le-ltb, lt-ltb}
 use Rattle.rooms.proofs.Reading.{filled}
 use borrow.Author.Needs.{needs}
-use Rattle.room.proofs.starts_after.Statement.{statement}
-use Rattle.room.proofs.starts_after.Tie as tie
+use Rattle.place.proofs.starts_after.Statement.{statement}
+use Rattle.place.proofs.starts_after.Tie as tie
 
 returns-2 : tie.Need-returns-2
 returns-2 c =

@@ -21,9 +21,9 @@ use Rattle.rule.specs.Room.{flat, laid, runsAllowed, slot, slots, sound, tableO
 use Rattle.rule.specs.Rules.{ruled}
 use Rattle.rule.specs.Table.{Table, limit, needed, runs}
 use Rattle.rule.proofs.Ruling.{Ruled, facts-ruled, ruled-facts}
-use Rattle.files.specs.Files as files
-use Rattle.files.proofs.Records.{length-records}
-use Rattle.files.proofs.RoundTrip.{length-saved, put-saved}
+use Rattle.storage.specs.Files as files
+use Rattle.storage.proofs.Records.{length-records}
+use Rattle.storage.proofs.RoundTrip.{length-saved, put-saved}
 use Rattle.rooms.specs.Slots.{put}
 use Rattle.rooms.proofs.Shifting.{drop-past}
 use Rattle.rooms.proofs.Bounds.{limit-gaps}

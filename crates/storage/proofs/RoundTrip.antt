@@ -15,8 +15,8 @@ use Rattle.rule.specs.Table.{Table}
 use Rattle.rule.specs.Bytes.{bits, bytes, countFrom, largestFrom, leastFrom, recordAt, records, recordsOf, saved, savedRecord, wordAt}
 use Rattle.rule.proofs.Fitting.{Fitted, Fitting}
 use Rattle.rule.proofs.Stores.{sets-append}
-use Rattle.files.specs.Files.{put}
-use Rattle.files.proofs.Words.{bits-fit, bits-reading, reading-bits, reading-fits}
+use Rattle.storage.specs.Files.{put}
+use Rattle.storage.proofs.Words.{bits-fit, bits-reading, reading-bits, reading-fits}
 
 -- ---- four bytes
 

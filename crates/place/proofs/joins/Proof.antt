@@ -1,9 +1,9 @@
--- `room::joins` meets its contract.
+-- `place::joins` meets its contract.
 use native.Mathlib.Omega.{arith}
 use Rattle.rooms.proofs.Placing.{byte-small, filled-before, slot-joins}
 use borrow.Author.Needs.{needs}
-use Rattle.room.proofs.joins.Statement.{statement}
-use Rattle.room.proofs.joins.Tie as tie
+use Rattle.place.proofs.joins.Statement.{statement}
+use Rattle.place.proofs.joins.Tie as tie
 
 returns : tie.Need-returns
 returns c = λ v. rw (c .before .ends-before .ensures, c .starts-after .ensures) (slot-joins (c .before .before .pre .0) (c .before .before .pre .1) v)

@@ -1,11 +1,11 @@
--- `room::ends_before` meets its contract.
+-- `place::ends_before` meets its contract.
 use Prim.Native.Nat.{_-_}
 use native.Mathlib.Omega.{arith}
 use borrow.Author.Tests.{lt-ltb}
 use Rattle.rooms.proofs.Reading.{filled}
 use borrow.Author.Needs.{needs}
-use Rattle.room.proofs.ends_before.Statement.{statement}
-use Rattle.room.proofs.ends_before.Tie as tie
+use Rattle.place.proofs.ends_before.Statement.{statement}
+use Rattle.place.proofs.ends_before.Tie as tie
 
 returns-2 : tie.Need-returns-2
 returns-2 c = rw (c .end .ensures, c .before .read .ensures, lt-ltb 0 (c .before .before .before .args .at) (omega arith))

@@ -1,4 +1,4 @@
--- `room::held` meets its contract.
+-- `place::held` meets its contract.
 use Prim.Native.Nat.{_-_}
 use mathlib.Core.Path.{sym, ap}
 use native.Mathlib.Omega.{arith}
@@ -6,8 +6,8 @@ use Rattle.rule.specs.Calls.{isHeld}
 use Rattle.rooms.proofs.Placing.{filled-before, slot-first, slot-held}
 use Rattle.rooms.proofs.Reading.{filled}
 use borrow.Author.Needs.{needs}
-use Rattle.room.proofs.held.Statement.{statement}
-use Rattle.room.proofs.held.Tie as tie
+use Rattle.place.proofs.held.Statement.{statement}
+use Rattle.place.proofs.held.Tie as tie
 
 returns : tie.Need-returns
 unfolding isHeld

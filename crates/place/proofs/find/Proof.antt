@@ -1,9 +1,9 @@
--- `room::find` meets its contract: the buckets passed, and those behind that start no later, are all.
+-- `place::find` meets its contract: the buckets passed, and those behind that start no later, are all.
 use Prim.Native.Nat.{_-_}
 use native.Mathlib.Omega.{arith}
 use Rattle.rooms.proofs.Placing.{Sought, sought-start, sought-stop, sought-next, sought-end}
-use Rattle.room.proofs.find.Statement.{statement}
-use Rattle.room.proofs.find.Tie as tie
+use Rattle.place.proofs.find.Statement.{statement}
+use Rattle.place.proofs.find.Tie as tie
 
 abbrev Inv-loop : tie.InvT-loop
 Inv-loop room used tick wanted i₀ i = Sought room used tick i

@@ -1,0 +1,57 @@
+// The calls for other languages that look at a trace or at a bucket. Each hands on to the call of its name and does nothing of its own.
+ghost use mathlib.Core.Path.{_≡_};
+ghost use Rattle.rule.specs.Bucket.{error, level};
+ghost use Rattle.plain.specs.Plain.{lookupReply, searchReply, worstReply};
+use fields::Fields;
+use fields::trace_of;
+use plain::Hit;
+use plain::Shown;
+use plain::WorstError;
+use plain::erring;
+use plain::pointing;
+use plain::showing;
+use rule::Bucket;
+
+#[no_mangle]
+pub extern "C" fn ndz_lookup(state: Fields, room: &[i64], tick: u32) -> Shown
+    ensures { λ r. ⌜ r ≡ lookupReply state (now (room .entry)) tick ⌝ }
+{
+    let trace = trace_of(state);
+    showing(trace.lookup(room, tick))
+}
+
+#[no_mangle]
+pub extern "C" fn ndz_first_over(
+    state: Fields,
+    room: &[i64],
+    first: u32,
+    last: u32,
+    bar: i32,
+) -> Hit
+    ensures { λ r. ⌜ r ≡ searchReply state (now (room .entry)) first last bar ⌝ }
+{
+    let trace = trace_of(state);
+    pointing(search::first_over(trace, room, first, last, bar))
+}
+
+#[no_mangle]
+pub extern "C" fn ndz_worst(state: Fields, room: &[i64]) -> WorstError
+    ensures { λ r. ⌜ r ≡ worstReply state (now (room .entry)) ⌝ }
+{
+    let trace = trace_of(state);
+    erring(worst::worst(trace, room))
+}
+
+#[no_mangle]
+pub extern "C" fn ndz_level(bucket: Bucket) -> i32
+    ensures { λ r. ⌜ r ≡ level bucket ⌝ }
+{
+    bucket::level(bucket)
+}
+
+#[no_mangle]
+pub extern "C" fn ndz_error(bucket: Bucket) -> u32
+    ensures { λ r. ⌜ r ≡ error bucket ⌝ }
+{
+    bucket::error(bucket)
+}

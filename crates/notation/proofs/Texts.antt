@@ -22,7 +22,7 @@ use Rattle.rule.proofs.Stores.{sets-append}
 use Rattle.rule.proofs.Whole.{by-test}
 use Rattle.rule.proofs.Whole.{whole as wholes}
 use Rattle.notation.specs.Signs.{minus}
-use Rattle.notation.specs.Printing.{Printed, decimal, decimalIn, digit, line, lineRoom, refused, row, total, whole}
+use Rattle.notation.specs.Printing.{Printed, decimal, decimalIn, digit, line, lineRoom, row, whole}
 
 -- a text stored byte by byte
 module _ (o : List ℕ) (at : ℕ) (s : List ℕ) where
@@ -118,12 +118,3 @@ row-short b start count least largest =
       whole-short (b .largest) largest,
       whole-short (level b) (middle-fits least largest),
     ))
-
-pub total-short : (readings buckets worst : ℕ) → readings < 2 ^ 64 → buckets < 2 ^ 64 → worst < word → length (total readings buckets worst) ≤ lineRoom
-unfolding total line
-total-short readings buckets worst h g e =
-    simp length-append (omega (arith, short 19 readings (omega arith), short 19 buckets (omega arith), short 9 worst (omega arith)))
-
-pub refused-short : (l n : ℕ) → l < 2 ^ 64 → n < word → length (refused l n) ≤ lineRoom
-unfolding refused line
-refused-short l n h g = simp length-append (omega (arith, short 19 l (omega arith), short 9 n (omega arith)))

@@ -13,20 +13,13 @@ use Rattle.rule.specs.Calls.{rowOutcome, wrote}
 use Rattle.rule.specs.Room.{tableOf}
 use Rattle.rule.specs.Table.{Table}
 use Rattle.rooms.proofs.Laying.{length-slots}
-use Rattle.row.specs.Answers.{number, rowAnswer}
-use Rattle.row.proofs.Filling.{all-written, as-long, number-fits}
+use Rattle.row.specs.Answers.{number}
 use Rattle.rooms.proofs.Writing.{write-either}
 
 other : (r : Refusal) (n : ℕ) → Written.Refused r ≡ Written.Buckets n → ⊥
 other r n e = let none : _≡_ {A = ℕ} 0 1 = cc in omega arith
 
 module _ (s : State) (l : List ℤ) (out : Table) where
-  pub row-answer : rowOutcome s l out .0 ≡ rowAnswer s l (length out)
-  row-answer = sym (ap (λ o. o .0) (all-written s l out))
-
-  pub row-length : length (rowOutcome s l out .1) ≡ length out
-  row-length = rw (← all-written s l out) (as-long l (number (rowAnswer s l (length out))) out (number-fits s l (length out)))
-
   -- a refusal leaves every record as it was
   pub row-refused : (r : Refusal) → rowOutcome s l out .0 ≡ Written.Refused r → rowOutcome s l out .1 ≡ out
   unfolding wrote

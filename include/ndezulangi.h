@@ -5,7 +5,7 @@
  *   the NDZ_ names below (ndz_refusal_text has them in words); `place` is 0 but for NDZ_RECORD, where it is the index of the
  *   record. After a refusal nothing that was lent has changed, but for the count of refused readings in a tally. The
  *   conditions are tried in the order in which a call lists its refusals, and the first that holds is the one given. All
- *   this is proved of the functions themselves (crates/ndezulangi), for any numbers and bytes.
+ *   this is proved of the functions themselves (crates/c_trace, c_look, c_lend), for any numbers and bytes.
  *
  * What every call needs
  *   A pointer comes with the number of its elements: `numbers` counts numbers of 64 bits, not slots and not bytes. It must

@@ -18,7 +18,7 @@ use Rattle.rule.specs.declared.State.{State}
 use Rattle.rule.specs.declared.Tally.{Tally}
 use Rattle.rule.specs.Answers.{number, place}
 use Rattle.rule.specs.Bytes.{recordsOf, saved}
-use Rattle.rule.specs.Calls.{accepted, admitted, Check, checked, counted, fileVerdict, found, foundOf, gapsKept, grown, isHeld, kept, late, lateVerdict, loaded, loadVerdict, lookupOutcome, measured, nextVerdict, refused, traced, Verdict, worstOutcome, writeVerdict, wrote}
+use Rattle.rule.specs.Calls.{Check, Verdict, accepted, admitted, checked, counted, fileVerdict, found, foundOf, gapsKept, grown, isHeld, kept, late, lateVerdict, loadVerdict, loaded, lookupOutcome, measured, nextVerdict, refused, traced, worstOutcome, writeVerdict, wrote}
 use Rattle.rule.specs.Numbers.{most, recordWidth, slotWidth, tallyMost, ticks, word}
 use Rattle.rule.specs.Files.{Finds, FirstBroken, meets}
 use Rattle.rule.specs.Room.{laid, signed, gapsBounded, gapsGood, roomy, runsAllowed, sound, stepsGood, tableOf}

@@ -17,7 +17,7 @@ use Rattle.rule.specs.declared.Tally.{Tally}
 use Rattle.rule.specs.declared.Written.{Written}
 use Rattle.rule.specs.Answers.{number, place}
 use Rattle.rule.specs.Bytes.{recordsOf}
-use Rattle.rule.specs.Calls.{accepted, counted, isHeld, late, lateOutcome, loaded, lookupOutcome, nextOutcome, opened, refused, rowOutcome, saveOutcome, Verdict, worstOutcome}
+use Rattle.rule.specs.Calls.{Verdict, accepted, counted, isHeld, late, lateOutcome, loaded, lookupOutcome, nextOutcome, opened, refused, rowOutcome, saveOutcome, worstOutcome}
 use Rattle.rule.specs.Files.{FirstBroken, meets}
 use Rattle.rule.specs.Room.{allOf, signed, sound, tableOf}
 use Rattle.rule.specs.Rules.{firstFault, placeOr, ruled, rules}

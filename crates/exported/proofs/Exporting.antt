@@ -22,7 +22,7 @@ use Rattle.rule.specs.declared.Written.{Written}
 use Rattle.rule.specs.Answers.{number, place}
 use Rattle.rule.specs.Bucket.{distance}
 use Rattle.rule.specs.Bytes.{saved}
-use Rattle.rule.specs.Calls.{accepted, checked, counted, found, foundOf, grown, isHeld, kept, late, lateOutcome, lateVerdict, loaded, lookupOutcome, measured, nextOutcome, nextVerdict, opened, refused, rowOutcome, saveOutcome, traced, Verdict, worstOutcome, writeVerdict, wrote}
+use Rattle.rule.specs.Calls.{Verdict, accepted, checked, counted, found, foundOf, grown, isHeld, kept, late, lateOutcome, lateVerdict, loaded, lookupOutcome, measured, nextOutcome, nextVerdict, opened, refused, rowOutcome, saveOutcome, traced, worstOutcome, writeVerdict, wrote}
 use Rattle.rule.specs.Numbers.{recordWidth, slotWidth, ticks}
 use Rattle.rule.specs.Room.{allOf, clauses, sound, stepsGood, tableOf}
 use Rattle.rule.specs.Table.{Table, holders, holding, holds, needed, worst}

@@ -19,7 +19,7 @@ use Rattle.rule.specs.declared.Tally.{Tally}
 use Rattle.rule.specs.declared.Written.{Written}
 use Rattle.rule.specs.Bucket.{level}
 use Rattle.rule.specs.Bytes.{bits, bytes, recordsOf, saved, savedRecord}
-use Rattle.rule.specs.Calls.{accepted, admitted, Check, checked, counted, fileVerdict, found, foundOf, isHeld, kept as keptAs, lateVerdict, loaded, lookupOutcome, nextVerdict, onward, refused, stateOf, traced, Verdict, worstOutcome, writeVerdict, wrote}
+use Rattle.rule.specs.Calls.{Check, Verdict, accepted, admitted, checked, counted, fileVerdict, found, foundOf, isHeld, kept as keptAs, lateVerdict, loaded, lookupOutcome, nextVerdict, onward, refused, stateOf, traced, worstOutcome, writeVerdict, wrote}
 use Rattle.rule.specs.Numbers.{recordWidth, ticks}
 use Rattle.rule.specs.Room.{laid, roomy, signed, slots, sound, tableOf}
 use Rattle.rule.specs.Table.{Table, holding, insert, needed, nextTick, runs, single}

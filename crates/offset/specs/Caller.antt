@@ -9,7 +9,7 @@ use Rattle.rule.specs.declared.Settings.{Settings}
 use Rattle.rule.specs.declared.State.{State}
 use Rattle.rule.specs.declared.Tally.{Tally}
 use Rattle.rule.specs.declared.Written.{Written}
-use Rattle.rule.specs.Calls.{accepted, counted, lateOutcome, loaded, lookupOutcome, nextOutcome, onward, opened, refused, rowOutcome, saveOutcome, Verdict, worstOutcome}
+use Rattle.rule.specs.Calls.{Verdict, accepted, counted, lateOutcome, loaded, lookupOutcome, nextOutcome, onward, opened, refused, rowOutcome, saveOutcome, worstOutcome}
 use Rattle.over.specs.declared.Sought.{Sought}
 use Rattle.over.specs.Search.{searchOutcome}
 use Rattle.rule.specs.declared.Measured.{Measured}

@@ -10,7 +10,7 @@ use mir.Val.{SFits}
 use Rattle.rule.specs.declared.Refusal.{Refusal}
 use Rattle.rule.specs.declared.Settings.{Settings}
 use Rattle.rule.specs.declared.State.{State}
-use Rattle.rule.specs.Calls.{accepted, counted, grown, kept, onward, opened, refused, stateOf, traced, Verdict}
+use Rattle.rule.specs.Calls.{Verdict, accepted, counted, grown, kept, onward, opened, refused, stateOf, traced}
 use Rattle.rule.specs.Numbers.{tallyMost, ticks, word}
 use Rattle.rule.specs.Room.{sound, tableOf}
 use Rattle.rule.specs.Table.{Table, accept, readings}

@@ -8,7 +8,7 @@ use lib.ListN.{length}
 use Rattle.rule.specs.declared.Settings.{Settings}
 use Rattle.rule.specs.declared.State.{State}
 use Rattle.rule.specs.declared.Tally.{Tally}
-use Rattle.rule.specs.Calls.{accepted, counted, lateOutcome, nextOutcome, onward, opened, refused, Verdict}
+use Rattle.rule.specs.Calls.{Verdict, accepted, counted, lateOutcome, nextOutcome, onward, opened, refused}
 use Rattle.rule.specs.Numbers.{tallyMost}
 use Rattle.rule.specs.Room.{signed}
 use Rattle.trace.specs.declared.Answer.{Answer}

@@ -89,7 +89,7 @@ static void line(const char *what, uint32_t turns, double library, double plain)
 
 static void readings(ndz_settings settings, uint32_t count, int unchecked)
 {
-    size_t numbers = NDZ_NUMBERS(settings.kind, settings.steps, settings.gaps);
+    size_t numbers = NDZ_NUMBERS(settings.kind, settings.size, settings.gaps);
     int late = settings.kind == NDZ_LATE;
     ndz_state library = ndz_open(settings, library_room, numbers).state;
     ndz_state plain = plain_open(settings, plain_room, numbers).state;
@@ -104,7 +104,7 @@ static void readings(ndz_settings settings, uint32_t count, int unchecked)
     }
     same(&library, &plain, numbers);
     char what[80];
-    snprintf(what, sizeof what, "%s, B = %" PRIu64 "%s", late ? "late" : "next", settings.steps, late ? ", K = 256" : "");
+    snprintf(what, sizeof what, "%s, B = %" PRIu64 "%s", late ? "late" : "next", settings.size, late ? ", K = 256" : "");
     line(what, count, of_library, of_plain);
     if (!unchecked)
         return;
@@ -120,7 +120,7 @@ static void readings(ndz_settings settings, uint32_t count, int unchecked)
 static void files(uint32_t turns)
 {
     size_t numbers = NUMBERS;
-    ndz_settings settings = {.kind = NDZ_LATE, .steps = NDZ_MOST_STEPS, .gaps = NDZ_MOST_GAPS};
+    ndz_settings settings = {.kind = NDZ_LATE, .size = NDZ_MOST_STEPS, .gaps = NDZ_MOST_GAPS};
     ndz_state state = ndz_open(settings, library_room, numbers).state;
     feed_late(ndz_late, &state, library_room, numbers, 100000);
     uint8_t mine[NDZ_RECORD_BYTES * NDZ_MOST_BUCKETS], other[NDZ_RECORD_BYTES * NDZ_MOST_BUCKETS];
@@ -162,11 +162,11 @@ int main(int argc, char **argv)
 {
     uint32_t count = argc > 1 ? (uint32_t)strtoul(argv[1], NULL, 10) : 2000000;
     printf("| call | library, ns | plain C, ns | ratio |\n|---|---|---|---|\n");
-    readings((ndz_settings){.kind = NDZ_IN_ORDER, .steps = NDZ_DEFAULT_STEPS}, count, 1);
-    readings((ndz_settings){.kind = NDZ_LATE, .steps = NDZ_MOST_STEPS, .gaps = NDZ_MOST_GAPS}, count, 1);
+    readings((ndz_settings){.kind = NDZ_IN_ORDER, .size = NDZ_DEFAULT_STEPS}, count, 1);
+    readings((ndz_settings){.kind = NDZ_LATE, .size = NDZ_MOST_STEPS, .gaps = NDZ_MOST_GAPS}, count, 1);
     static const uint64_t sizes[] = {1, 4, 16, 64, 256};
     for (int i = 0; i < 5; i++)
-        readings((ndz_settings){.kind = NDZ_IN_ORDER, .steps = sizes[i]}, count / 10, 0);
+        readings((ndz_settings){.kind = NDZ_IN_ORDER, .size = sizes[i]}, count / 10, 0);
     files(count / 100);
     return 0;
 }

@@ -22,7 +22,7 @@ static int next_byte(void)
 int main(void)
 {
     int64_t room[NUMBERS];
-    ndz_answer trace = plain_open((ndz_settings){.kind = NDZ_IN_ORDER, .steps = NDZ_DEFAULT_STEPS}, room, NUMBERS);
+    ndz_answer trace = plain_open((ndz_settings){.kind = NDZ_IN_ORDER, .size = NDZ_DEFAULT_STEPS}, room, NUMBERS);
     for (int byte = next_byte(); byte != EOF; byte = next_byte()) {
         int negative = byte == '-', digits = 0;
         int64_t value = 0;

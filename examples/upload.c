@@ -1,4 +1,4 @@
-/* upload FILE: takes readings from standard input, one whole number a line, keeps them as at most 64 steps, saves these to FILE, loads them
+/* upload FILE: takes readings from standard input, one whole number a line, keeps them as at most 63 steps, saves these to FILE, loads them
  * again as another program would, and prints a line a step (start, count, least, largest, level) and the worst error.
  * The exit status is 0, or 1 where something is refused or cannot be read or written: standard error then says what, and where. The first line
  * that is refused ends the run, and nothing is saved. Built and run by tools/example. */
@@ -6,13 +6,13 @@
 #include <inttypes.h>
 #include <stdio.h>
 
-#define STEPS NDZ_DEFAULT_STEPS
-#define NUMBERS NDZ_NUMBERS(NDZ_IN_ORDER, STEPS, 0)
-#define BUCKETS (2 * STEPS)
+/* A tablet page has room for so many steps. */
+#define BUCKETS 63
+#define NUMBERS NDZ_NUMBERS_BASE(NDZ_IN_ORDER, BUCKETS, 0)
 #define FILE_BYTES (NDZ_RECORD_BYTES * BUCKETS)
 
 /* A file does not say what it was saved with: whoever loads it names the same settings. */
-static const ndz_settings settings = {NDZ_IN_ORDER, STEPS, 0};
+static const ndz_settings settings = {NDZ_IN_ORDER, BUCKETS, 0, NDZ_BY_BASE};
 
 static int failed(const char *where, const char *why)
 {

@@ -21,10 +21,10 @@ static size_t numbers_lent, bytes_lent;
 
 /* ---- the numbers of the command at hand */
 
-enum name { KIND, STEPS, GAPS, USED, RUNS, READINGS, ACCEPTED, REFUSED, MERGES, LENT, PLACE, LENGTH, AT, FROM, TO, START, COUNT, LEAST, LARGEST, TICK, VALUE, FIRST, LAST, BAR, NAMES };
+enum name { KIND, BASE, GAPS, USED, RUNS, READINGS, ACCEPTED, REFUSED, MERGES, LENT, PLACE, LENGTH, AT, FROM, TO, START, COUNT, LEAST, LARGEST, TICK, VALUE, FIRST, LAST, BAR, SIZE, BY, NAMES };
 
-static const char *const names[NAMES] = {"kind", "steps", "gaps", "used", "runs", "readings", "accepted", "refused", "merges", "numbers", "places",
-    "bytes", "at", "from", "to", "start", "count", "least", "largest", "tick", "value", "first", "last", "bar"};
+static const char *const names[NAMES] = {"kind", "base", "gaps", "used", "runs", "readings", "accepted", "refused", "merges", "numbers", "places",
+    "bytes", "at", "from", "to", "start", "count", "least", "largest", "tick", "value", "first", "last", "bar", "size", "by"};
 
 static uint64_t number[NAMES];
 
@@ -128,7 +128,7 @@ static void show_row(size_t places)
 static void show_state(ndz_state of)
 {
     unsigned_number(of.kind);
-    unsigned_number(of.steps);
+    unsigned_number(of.base);
     unsigned_number(of.gaps);
     unsigned_number(of.used);
     unsigned_number(of.runs);
@@ -156,7 +156,7 @@ static const int64_t *lend_const_room(void)
 
 static ndz_settings settings(void)
 {
-    return (ndz_settings){.kind = number[KIND], .steps = number[STEPS], .gaps = number[GAPS]};
+    return (ndz_settings){.kind = number[KIND], .size = number[SIZE], .gaps = number[GAPS], .by = number[BY]};
 }
 
 static void answered(ndz_answer answer)
@@ -327,7 +327,7 @@ static void obey_show(void)
 
 static void obey_state(void)
 {
-    state = (ndz_state){number[KIND], number[STEPS], number[GAPS], number[USED], number[RUNS], number[READINGS]};
+    state = (ndz_state){number[KIND], number[BASE], number[GAPS], number[USED], number[RUNS], number[READINGS]};
 }
 
 static void obey_tally(void)
@@ -459,7 +459,7 @@ static void read_number(char *pair)
 /* What a name that is not given stands for. */
 static void begin(void)
 {
-    const uint64_t at_hand[] = {state.kind, state.steps, state.gaps, state.used, state.runs, state.readings, tally.accepted, tally.refused, tally.merges};
+    const uint64_t at_hand[] = {state.kind, state.base, state.gaps, state.used, state.runs, state.readings, tally.accepted, tally.refused, tally.merges};
     memset(number, 0, sizeof number);
     memcpy(number, at_hand, sizeof at_hand);
 }

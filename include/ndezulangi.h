@@ -16,7 +16,7 @@
  *
  * The room
  *   Signed 64-bit numbers, four to a slot: start, count, least, largest. NDZ_NUMBERS(kind, B, K) numbers are enough for a
- *   trace, and a room may have more. The slots in use come first, in tick order, the others up to the needed number are
+ *   trace of B, NDZ_NUMBERS_BASE(kind, C, K) for one of C, and a room may have more. The slots in use come first, in tick order, the others up to the needed number are
  *   zeros, and what lies behind the needed slots is never written. Hand each call the state that the last one left and the
  *   same room; state and room that do not belong together are refused by NDZ_UNSOUND, whatever they hold.
  *
@@ -36,24 +36,32 @@ extern "C" {
 #endif
 
 #define NDZ_VERSION_MAJOR 0
-#define NDZ_VERSION_MINOR 3
+#define NDZ_VERSION_MINOR 4
 
 /* Kinds. Any other number than 0 is taken as late, and an accepted call hands it back as 1. */
 #define NDZ_IN_ORDER 0 /* the next reading takes the next tick, from 0 */
 #define NDZ_LATE 1     /* each reading names its tick, in any order */
 
-/* Limits. */
+/* What `size` names. Any other number than 0 is taken as by base. In a trace that was opened empty, also where it was saved and
+ * loaded again with its settings: if every reading is within E of some curve of at most (C + 1) / 2 flat steps, rounded down,
+ * every reading is within E of the steps kept. Where C is 2B, these are curves of at most B flat steps. */
+#define NDZ_BY_STEPS 0 /* B: at most 2B steps in order */
+#define NDZ_BY_BASE 1  /* C, the base limit itself: at most C steps in order */
+
+/* Limits. A late trace has at most C steps and one for each of its runs. */
 #define NDZ_DEFAULT_STEPS 32
 #define NDZ_MOST_STEPS 256
+#define NDZ_MOST_BASE 512
 #define NDZ_MOST_GAPS 256
 #define NDZ_LAST_TICK 16777215
-#define NDZ_MOST_BUCKETS 768 /* of any trace: 2B and K at their most */
+#define NDZ_MOST_BUCKETS 768 /* of any trace: C and K at their most */
 #define NDZ_SLOT 4           /* numbers of a slot */
 #define NDZ_RECORD_BYTES 16  /* bytes of a saved bucket */
 
-/* How many numbers a trace needs: four for each of 2B + 1 slots in order, of 2B + K + 1 late. For B and K in their bounds a
- * constant where they are: int64_t room[NDZ_NUMBERS(NDZ_IN_ORDER, 32, 0)]. */
-#define NDZ_NUMBERS(kind, steps, gaps) (NDZ_SLOT * (2 * (steps) + ((kind) == NDZ_IN_ORDER ? 0 : (gaps)) + 1))
+/* How many numbers a trace needs: four for each of C + 1 slots in order, of C + K + 1 late; by steps C is 2B. For B, C and K in
+ * their bounds a constant where they are: int64_t room[NDZ_NUMBERS_BASE(NDZ_IN_ORDER, 63, 0)]. */
+#define NDZ_NUMBERS_BASE(kind, base, gaps) (NDZ_SLOT * ((base) + ((kind) == NDZ_IN_ORDER ? 0 : (gaps)) + 1))
+#define NDZ_NUMBERS(kind, steps, gaps) NDZ_NUMBERS_BASE(kind, 2 * (steps), gaps)
 
 /* Refusals. */
 #define NDZ_STEPS 1
@@ -70,18 +78,19 @@ extern "C" {
 #define NDZ_ABSENT 12
 #define NDZ_SHORT 13
 
-/* What a trace is opened or loaded with. B is `steps`; K, the most unbroken runs of a late trace, is `gaps`, which is
- * ignored in order. */
+/* What a trace is opened or loaded with. `size` is B or C, as `by` says; K, the most unbroken runs of a late trace, is `gaps`,
+ * which is ignored in order. */
 typedef struct {
     uint64_t kind;
-    uint64_t steps;
+    uint64_t size;
     uint64_t gaps;
+    uint64_t by; /* NDZ_BY_STEPS or NDZ_BY_BASE */
 } ndz_settings;
 
 /* A trace but for its room. */
 typedef struct {
     uint64_t kind;
-    uint64_t steps;
+    uint64_t base;     /* C, which is 2B where B was named */
     uint64_t gaps;     /* 0 in order */
     uint64_t used;     /* slots in use: the buckets */
     uint64_t runs;     /* longest stretches of arrived ticks */
@@ -193,7 +202,8 @@ uint32_t ndz_error(ndz_bucket bucket);
  * Refuses: NDZ_UNSOUND, NDZ_SHORT (`out` has fewer than 16 bytes for each bucket). */
 ndz_written ndz_save(ndz_state state, const int64_t *room, size_t numbers, uint8_t *out, size_t out_bytes);
 
-/* The trace of saved bytes. With the settings that it was saved with, it is the same trace.
+/* The trace of saved bytes. With the settings that it was saved with, it is the same trace; B and C = 2B are the same here,
+ * whichever it was opened by.
  * Refuses: NDZ_STEPS, NDZ_GAPS, NDZ_ROOM, NDZ_LENGTH, NDZ_RECORD, NDZ_RUNS, NDZ_OVERFULL. */
 ndz_answer ndz_load(ndz_settings settings, const uint8_t *file, size_t bytes, int64_t *room, size_t numbers);
 
@@ -210,7 +220,7 @@ static inline const char *ndz_refusal_text(uint32_t refusal)
 {
     switch (refusal) {
     case 0: return "accepted";
-    case NDZ_STEPS: return "the number of steps is 0 or above 256";
+    case NDZ_STEPS: return "the number of steps is 0 or above 256, or the base limit is 0 or above 512";
     case NDZ_GAPS: return "the number of runs allowed is 0 or above 256";
     case NDZ_ROOM: return "the room is too short";
     case NDZ_UNSOUND: return "state and room are not a sound trace";
@@ -219,7 +229,7 @@ static inline const char *ndz_refusal_text(uint32_t refusal)
     case NDZ_LENGTH: return "the saved bytes are not a multiple of 16";
     case NDZ_RECORD: return "a saved record breaks a rule";
     case NDZ_RUNS: return "there would be more runs than allowed";
-    case NDZ_OVERFULL: return "there are more saved records than steps allowed";
+    case NDZ_OVERFULL: return "there are more saved records than the limit of steps";
     case NDZ_TAKEN: return "the tick already has a reading";
     case NDZ_ABSENT: return "the tick has no reading";
     case NDZ_SHORT: return "the output is too short";

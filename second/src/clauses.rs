@@ -4,7 +4,7 @@ use crate::calls::{State, SLOT};
 use crate::rule::{Kind, TICKS};
 
 pub const CLAUSES: [&str; 10] = [
-    "steps in bounds",
+    "base in bounds",
     "gaps in bounds",
     "runs allowed",
     "room long enough",
@@ -20,19 +20,19 @@ pub const CLAUSES: [&str; 10] = [
 pub fn broken(state: State, room: &[i64]) -> [bool; CLAUSES.len()] {
     let late = state.kind == Kind::Late;
     let wide = |number: u64| i128::from(number);
-    let bounded = |number: u64| (1..=256).contains(&number);
+    let bounded = |number: u64, most: u64| (1..=most).contains(&number);
     let missing_ticks = if late { wide(state.gaps) } else { 0 };
-    let needed = 2 * wide(state.steps) + missing_ticks + 1;
-    let limit = 2 * wide(state.steps) + if late { wide(state.runs) } else { 0 };
+    let needed = wide(state.base) + missing_ticks + 1;
+    let limit = wide(state.base) + if late { wide(state.runs) } else { 0 };
     let slots = room.len() as i128;
     let said = wide(state.used).min(slots + 1) as usize;
     let table = Table::read(late, room, said);
     let end = (needed.min(slots) * SLOT as i128).min(slots) as usize;
     let unused = room.get(said * SLOT..end).unwrap_or(&[]);
     [
-        !bounded(state.steps),
+        !bounded(state.base, 512),
         if late {
-            !bounded(state.gaps)
+            !bounded(state.gaps, 256)
         } else {
             state.gaps != 0
         },

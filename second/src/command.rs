@@ -1,7 +1,7 @@
 //! The language of scripts: text, one command a line, a word and then numbers by name, one space apart: `late tick=3 value=-5`.
 //!
 //! A number is decimal, of 64 bits; one below 0 stands by its bits in two's complement. A name that is not given is the field of that name in the
-//! state at hand or in the tally, any other 0. Where a field has fewer bits, the lowest of the number are its. A line that begins
+//! state at hand or in the tally, any other 0: so are `size` and `by`, which no state has. Where a field has fewer bits, the lowest of the number are its. A line that begins
 //! with `#` is a heading for what follows it, and is no command. Words and names have at most eight letters.
 //!
 //! A script has a state at hand, of six fields, a room of 8,192 numbers of which the first so many are lent, a file of 65,536 bytes of which the
@@ -10,7 +10,7 @@
 //!
 //! | Word | Names | What it does |
 //! |---|---|---|
-//! | `open` | `kind steps gaps` | opens a trace with these settings |
+//! | `open` | `kind size gaps by` | opens a trace with these settings: `size` is B where `by` is 0, the base limit C where it is any other number |
 //! | `next` | `value` | the next reading |
 //! | `late` | `tick value` | a late reading |
 //! | `nexttold`, `latetold` | as `next`, `late` | the same with the tally lent |
@@ -19,10 +19,10 @@
 //! | `worst` | | the worst error |
 //! | `row` | `places` | so many buckets of the row are lent |
 //! | `save` | `bytes` | so many bytes of the output are lent |
-//! | `load` | `kind steps gaps` | loads the lent file with these settings |
+//! | `load` | `kind size gaps by` | loads the lent file with these settings, `size` and `by` as in `open` |
 //! | `level`, `error` | `start count least largest` | of that bucket |
 //! | `show` | | no call: the state at hand and every lent number |
-//! | `state` | `kind steps gaps used runs readings` | makes these the state at hand |
+//! | `state` | `kind base gaps used runs readings` | makes these the state at hand |
 //! | `tally` | `accepted refused merges` | makes these the tally |
 //! | `room` | `numbers` | so many numbers of the room are lent from now on |
 //! | `fill` | `value` | every lent number of the room is this |
@@ -108,7 +108,7 @@ named! { Word:
 
 named! { Name:
     Kind "kind",
-    Steps "steps",
+    Base "base",
     Gaps "gaps",
     Used "used",
     Runs "runs",
@@ -131,6 +131,8 @@ named! { Name:
     First "first",
     Last "last",
     Bar "bar",
+    Size "size",
+    By "by",
 }
 
 impl Word {

@@ -1,10 +1,11 @@
 //! What an obeyed script meets, and how much of it all the scripts together must meet.
 
-use crate::calls::{Tally, LAST_CALL_REFUSAL, RECORD, RECORD_BYTES, UNSOUND};
+use crate::calls::{Size, State, Tally, LAST_CALL_REFUSAL, RECORD, RECORD_BYTES, UNSOUND};
 use crate::clauses::{self, CLAUSES};
 use crate::command::{Command, Name, Word};
 use crate::searches::{Search, SORTS};
-use crate::session::{Answer, Session};
+use crate::session::{kind_of, size_of, Answer, Session};
+use crate::sizes::{self, Call};
 use std::collections::BTreeMap;
 
 /// How often each thing was met, by its name.
@@ -25,6 +26,8 @@ pub struct Counts {
     heading: String,
     met: Met,
     tally: Tally,
+    state: State,
+    opened: Option<Size>,
 }
 
 impl Counts {
@@ -35,6 +38,7 @@ impl Counts {
     /// One command, and the session as it left it.
     pub fn after(&mut self, session: &Session, command: &Command, answer: &Answer) {
         let before = std::mem::replace(&mut self.tally, session.tally);
+        let state = std::mem::replace(&mut self.state, session.state);
         if !command.word.is_call() {
             return;
         }
@@ -60,6 +64,7 @@ impl Counts {
             Word::Over => self.searched(session, command, answer),
             _ => {}
         }
+        self.sized(session, command, state, number);
         if session.lent > MOST_NUMBERS {
             self.count("room above 3076 numbers");
         }
@@ -77,9 +82,31 @@ impl Counts {
         *self.met.entry(what.to_string()).or_default() += 1;
     }
 
+    /// By what B and C are told apart.
+    fn sized(&mut self, session: &Session, command: &Command, before: State, refusal: u32) {
+        let opens = matches!(command.word, Word::Open | Word::Load);
+        let given = |name| command.given(name).filter(|_| opens);
+        let call = Call {
+            command,
+            before,
+            after: session.state,
+            refusal,
+            lent: session.lent,
+            kind: given(Name::Kind).map_or(before.kind, kind_of),
+            gaps: given(Name::Gaps).unwrap_or(before.gaps),
+            opened: self.opened,
+        };
+        for sort in sizes::sorts(&call) {
+            *self.met.entry(sort).or_default() += 1;
+        }
+        if opens && refusal == 0 {
+            self.opened = Some(size_of(command));
+        }
+    }
+
     /// Settings that 32 bits do not hold.
     fn settings(&mut self, command: &Command) {
-        for name in [Name::Kind, Name::Steps, Name::Gaps] {
+        for name in [Name::Kind, Name::Size, Name::Gaps, Name::By] {
             if command.given(name) > Some(u64::from(u32::MAX)) {
                 self.count(&format!("{} wide {}", command.word.text(), name.text()));
             }
@@ -204,7 +231,7 @@ pub fn wanted() -> Met {
         wanted.insert(sort.to_string(), OF_EACH_SORT);
     }
     for word in [Word::Open, Word::Load] {
-        for name in [Name::Kind, Name::Steps, Name::Gaps] {
+        for name in [Name::Kind, Name::Size, Name::Gaps, Name::By] {
             wanted.insert(format!("{} wide {}", word.text(), name.text()), 100);
         }
     }
@@ -228,6 +255,7 @@ pub fn wanted() -> Met {
     ] {
         wanted.insert(name.to_string(), times);
     }
+    wanted.extend(sizes::wanted());
     wanted.extend(crate::scripts::wanted_headings());
     wanted
 }

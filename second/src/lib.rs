@@ -18,4 +18,5 @@ pub mod scripts;
 pub mod searches;
 pub mod session;
 pub mod shapes;
+pub mod sizes;
 pub mod told;

@@ -1,6 +1,6 @@
 //! The listing program: lines of readings in, one line a bucket and the total out.
 
-use crate::calls::{Refusal, Trace, LINE};
+use crate::calls::{Refusal, Size, Trace, LINE};
 use crate::rule::{self, Kind};
 use std::io::{self, BufRead, Read, Write};
 
@@ -52,7 +52,7 @@ struct Listing {
 
 impl Listing {
     fn new() -> Listing {
-        let trace = Trace::open(Kind::InOrder, DEFAULT_STEPS, 0);
+        let trace = Trace::open(Kind::InOrder, Size::Steps(DEFAULT_STEPS), 0);
         Listing {
             stage: Stage::Beginning,
             trace: trace.expect("the default is in bounds"),
@@ -64,11 +64,11 @@ impl Listing {
         // Each header opens anew at once, so that a bad setting is refused at its own line.
         self.stage = match line_of(line) {
             Some(Line::Steps(steps)) if self.stage == Stage::Beginning => {
-                self.trace = Trace::open(Kind::InOrder, steps, 0)?;
+                self.trace = Trace::open(Kind::InOrder, Size::Steps(steps), 0)?;
                 Stage::AfterSteps
             }
             Some(Line::Late(gaps)) if self.stage <= Stage::AfterSteps => {
-                self.trace = Trace::open(Kind::Late, self.trace.steps(), gaps)?;
+                self.trace = Trace::open(Kind::Late, Size::Base(self.trace.base()), gaps)?;
                 Stage::AfterLate
             }
             Some(Line::Value(value)) if !late => {

@@ -12,7 +12,7 @@ pub fn other_kind(random: &mut Random, kind: u64) -> u64 {
 
 /// Another value for a field of the state but its kind.
 pub fn other_field(random: &mut Random, field: u64) -> u64 {
-    let ends = [0, 1, 256, 257, TICKS, 1 << 32, 1 << 62, u64::MAX];
+    let ends = [0, 1, 256, 257, 512, 513, TICKS, 1 << 32, 1 << 62, u64::MAX];
     let end = random.choice(&ends);
     random.choice(&[field.wrapping_add(1), field.saturating_sub(1), end])
 }

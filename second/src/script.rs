@@ -1,6 +1,6 @@
 //! A script that is being written: its text, and the session that it makes, by which the next commands are chosen.
 
-use crate::calls::{self, RECORD_BYTES, SLOT};
+use crate::calls::{self, Size, RECORD_BYTES, SLOT};
 use crate::command::{Command, Name, Word};
 use crate::made;
 use crate::random::Random;
@@ -56,27 +56,45 @@ impl Script {
         self.random.below(of) == 0
     }
 
+    /// An open or a load by any four numbers; `by` is left out where it is 0. Answers whether it was accepted.
+    pub fn named(&mut self, word: Word, kind: u64, size: u64, gaps: u64, by: u64) -> bool {
+        let settings = [
+            (Name::Kind, kind),
+            (Name::Size, size),
+            (Name::Gaps, gaps),
+            (Name::By, by),
+        ];
+        let given = if by == 0 { 3 } else { 4 };
+        self.give(word, &settings[..given])
+    }
+
+    fn settings(&mut self, word: Word, kind: u64, size: Size, gaps: u64) -> bool {
+        match size {
+            Size::Steps(steps) => self.named(word, kind, steps, gaps, 0),
+            Size::Base(base) => self.named(word, kind, base, gaps, 1),
+        }
+    }
+
     /// The kind may be any number.
-    pub fn open_as(&mut self, kind: u64, steps: u64, gaps: u64) {
-        let settings = [(Name::Kind, kind), (Name::Steps, steps), (Name::Gaps, gaps)];
-        self.give(Word::Open, &settings);
+    pub fn open_as(&mut self, kind: u64, size: Size, gaps: u64) {
+        self.settings(Word::Open, kind, size, gaps);
     }
 
     /// In a room of so many numbers.
-    pub fn open(&mut self, kind: Kind, steps: u64, gaps: u64, numbers: usize) {
+    pub fn open(&mut self, kind: Kind, size: Size, gaps: u64, numbers: usize) {
         self.room(numbers);
-        self.open_as(kind as u64, steps, gaps);
+        self.open_as(kind as u64, size, gaps);
     }
 
-    /// In a room with no number too many.
-    pub fn open_fitting(&mut self, kind: Kind, steps: u64, gaps: u64) {
-        self.open(kind, steps, gaps, calls::needed_numbers(kind, steps, gaps));
+    /// In a room with no number too many; the size must be in bounds.
+    pub fn open_fitting(&mut self, kind: Kind, size: Size, gaps: u64) {
+        let base = size.base().expect("a size in bounds");
+        self.open(kind, size, gaps, calls::needed_numbers(kind, base, gaps));
     }
 
     /// The kind may be any number. Answers whether it was accepted.
-    pub fn load_as(&mut self, kind: u64, steps: u64, gaps: u64) -> bool {
-        let settings = [(Name::Kind, kind), (Name::Steps, steps), (Name::Gaps, gaps)];
-        self.give(Word::Load, &settings)
+    pub fn load_as(&mut self, kind: u64, size: Size, gaps: u64) -> bool {
+        self.settings(Word::Load, kind, size, gaps)
     }
 
     pub fn next(&mut self, value: i32) {

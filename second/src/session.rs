@@ -1,6 +1,6 @@
 //! What a script has made so far, and how each command changes it and what it answers.
 
-use crate::calls::{self, Held, Record, Refusal, State, Tally, RECORD_BYTES, SLOT};
+use crate::calls::{self, Held, Record, Refusal, Size, State, Tally, RECORD_BYTES, SLOT};
 use crate::command::{Command, Name, Word};
 use crate::rule::{Bucket, Kind};
 
@@ -59,14 +59,7 @@ pub struct Session {
 impl Session {
     pub fn new() -> Session {
         Session {
-            state: State {
-                kind: Kind::InOrder,
-                steps: 0,
-                gaps: 0,
-                used: 0,
-                runs: 0,
-                readings: 0,
-            },
+            state: State::default(),
             kind: 0,
             tally: Tally::default(),
             lent: 0,
@@ -86,17 +79,17 @@ impl Session {
         &self.file[..self.length]
     }
 
-    /// Kind, B, K, slots in use, runs and readings of the state at hand.
+    /// Kind, C, K, slots in use, runs and readings of the state at hand.
     pub fn fields(&self) -> [u64; 6] {
         let State {
-            steps,
+            base,
             gaps,
             used,
             runs,
             readings,
             ..
         } = self.state;
-        [self.kind, steps, gaps, used, runs, readings]
+        [self.kind, base, gaps, used, runs, readings]
     }
 
     /// Of a sound trace, whose slots in use are all there.
@@ -157,14 +150,14 @@ impl Session {
     /// A call that answers a state.
     fn change(&mut self, command: &Command) -> Answer {
         let kind = kind_of(self.setting(command, Name::Kind));
-        let steps = self.setting(command, Name::Steps);
+        let size = size_of(command);
         let gaps = self.setting(command, Name::Gaps);
         let room = &mut self.room[..self.lent];
         let tick = command.number(Name::Tick) as u32;
         let value = command.number(Name::Value) as i32;
         let answer = match command.word {
-            Word::Open => calls::open(kind, steps, gaps, room),
-            Word::Load => calls::load(kind, steps, gaps, &self.file[..self.length], room),
+            Word::Open => calls::open(kind, size, gaps, room),
+            Word::Load => calls::load(kind, size, gaps, &self.file[..self.length], room),
             Word::Next => calls::next(self.state, room, value),
             Word::Late => calls::late(self.state, room, tick, value),
             Word::NextTold => calls::next_tallied(self.state, room, value, &mut self.tally),
@@ -234,7 +227,7 @@ impl Session {
         self.kind = self.setting(command, Name::Kind);
         self.state = State {
             kind: kind_of(self.kind),
-            steps: self.setting(command, Name::Steps),
+            base: self.setting(command, Name::Base),
             gaps: self.setting(command, Name::Gaps),
             used: self.setting(command, Name::Used),
             runs: self.setting(command, Name::Runs),
@@ -279,10 +272,19 @@ fn at_most(number: u64, most: usize) -> usize {
     number.min(most as u64) as usize
 }
 
-fn kind_of(number: u64) -> Kind {
+pub fn kind_of(number: u64) -> Kind {
     match number {
         0 => Kind::InOrder,
         _ => Kind::Late,
+    }
+}
+
+/// As an open or a load names it.
+pub fn size_of(command: &Command) -> Size {
+    let size = command.number(Name::Size);
+    match command.number(Name::By) {
+        0 => Size::Steps(size),
+        _ => Size::Base(size),
     }
 }
 

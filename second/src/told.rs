@@ -96,7 +96,7 @@ fn fields(state: &State) -> [u64; 6] {
     let kind = state.kind as u64;
     [
         kind,
-        state.steps,
+        state.base,
         state.gaps,
         state.used,
         state.runs,

@@ -6,8 +6,9 @@ use mathlib.Core.List.{List, [], _∷_}
 use native.Mathlib.Omega.{arith}
 use lib.IntN.{ℤ}
 use Rattle.rule.specs.declared.Refusal.{Refusal}
+use Rattle.rule.specs.declared.Opening.{Opening}
 use Rattle.rule.specs.declared.Settings.{Settings}
-use Rattle.rule.specs.Calls.{Check, Verdict, checked, refused, accepted, admitted}
+use Rattle.rule.specs.Calls.{Check, Verdict, checked, refused, accepted, admitted, kept}
 use Rattle.rule.specs.Table.{Table, needed}
 use Rattle.admission.specs.declared.Admitted.{Admitted}
 use Rattle.admission.specs.Admission.{admission}
@@ -20,11 +21,13 @@ same-refusal [] s r v e = absurd (let z : _≡_ {A = ℕ} 0 1 = cc in omega arit
 same-refusal ((true, q) ∷ l) s r v e = cc
 same-refusal ((false, q) ∷ l) s r v e = same-refusal l s r v e
 
-pub admit-refuses : (s : Settings) (l : List ℤ) (r : Refusal) → admission s (admitted s l (accepted [])) ≡ Admitted.Refused r → (v : Verdict Table) → admitted s l v ≡ refused r
+pub admit-refuses : (o : Opening) (l : List ℤ) (r : Refusal) → admission (kept o) (admitted o l (accepted [])) ≡ Admitted.Refused r → (v : Verdict Table) → admitted o l v ≡ refused r
 unfolding admitted
-admit-refuses s l r e v = same-refusal _ s r v e
+admit-refuses o l r e v = same-refusal _ (kept o) r v e
 
-pub admit-grants : (s : Settings) (l : List ℤ) (n : ℕ) → admission s (admitted s l (accepted [])) ≡ Admitted.Slots n → Granted s l × (n ≡ needed s)
+-- what `admit` grants is what is kept
+pub admit-grants : (o : Opening) (l : List ℤ) (s : Settings) (n : ℕ) → admission (kept o) (admitted o l (accepted [])) ≡ Admitted.Granted s n → Granted (kept o) l × (s ≡ kept o) × (n ≡ needed (kept o))
 unfolding admission
-admit-grants s l n =
-    past-admission s l (accepted []) (λ v. admission s v ≡ Admitted.Slots n → Granted s l × (n ≡ needed s)) (λ r e. absurd (let z : _≡_ {A = ℕ} 0 1 = cc in omega arith)) (λ g e. (g, cc))
+admit-grants o l s n =
+    past-admission o l (accepted []) (λ v. admission (kept o) v ≡ Admitted.Granted s n → Granted (kept o) l × (s ≡ kept o) × (n ≡ needed (kept o)))
+    (λ r e. absurd (let z : _≡_ {A = ℕ} 0 1 = cc in omega arith)) (λ g e. (g, (let same : s ≡ kept o = cc in same), (let same : n ≡ needed (kept o) = cc in same)))

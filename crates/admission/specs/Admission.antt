@@ -4,7 +4,7 @@ use Rattle.rule.specs.Calls.{Verdict, refused, accepted}
 use Rattle.rule.specs.Table.{Table, needed}
 use Rattle.admission.specs.declared.Admitted.{Admitted}
 
--- settings and room that are admitted: the slots needed
+-- what is admitted: the settings to keep, and the slots needed
 unfoldable pub admission : Settings → Verdict Table → Admitted
 admission s (refused r) = Admitted.Refused r
-admission s (accepted t) = Admitted.Slots (needed s)
+admission s (accepted t) = Admitted.Granted s (needed s)

@@ -1,28 +1,32 @@
-// The check that open and load begin with: settings that are good, and a room that is long enough.
+// The check that open and load begin with: what is named is good, and the room is long enough.
 ghost use mathlib.Core.Path.{_≡_};
 ghost use mathlib.Core.List.{[]};
-ghost use Rattle.rule.specs.Calls.{accepted, admitted};
+ghost use Rattle.rule.specs.Calls.{accepted, admitted, kept};
 ghost use Rattle.admission.specs.Admission.{admission};
+use openings::kept;
+use openings::size_good;
+use rule::Opening;
 use rule::Refusal;
 use rule::SLOT;
 use rule::Settings;
 use settings::gaps_good;
 use settings::needed;
-use settings::steps_good;
 
-// The slots that are needed, or the refusal.
+// The settings to keep and the slots that are needed, or the refusal.
 pub enum Admitted {
-    Slots(usize),
+    Granted { settings: Settings, slots: usize },
     Refused(Refusal),
 }
 
 // Refusals 1, 2 and 3.
-pub fn admit(s: Settings, room: &[i64]) -> Admitted
-    ensures { λ r. ⌜ r ≡ admission s (admitted s (now (room .entry)) (accepted [])) ⌝ }
+pub fn admit(named: Opening, room: &[i64]) -> Admitted
+    ensures { λ r. ⌜ r ≡ admission (kept named) (admitted named (now (room .entry)) (accepted [])) ⌝ }
 {
-    if !steps_good(s) {
+    let size = named.size;
+    if !size_good(size) {
         return Admitted::Refused(Refusal::Steps);
     }
+    let s = kept(named);
     let kind = s.kind;
     if !gaps_good(kind, s.gaps) {
         return Admitted::Refused(Refusal::Gaps);
@@ -31,5 +35,5 @@ pub fn admit(s: Settings, room: &[i64]) -> Admitted
     if room.len() < SLOT * slots {
         return Admitted::Refused(Refusal::Room);
     }
-    Admitted::Slots(slots)
+    Admitted::Granted { settings: s, slots }
 }

@@ -13,20 +13,25 @@ use Rattle.rule.specs.declared.Bucket.{Bucket}
 use Rattle.rule.specs.declared.Kind.{Kind}
 use Rattle.rule.specs.declared.Kind.the-variants.{InOrder, Late}
 use Rattle.rule.specs.declared.Refusal.{Refusal}
+use Rattle.rule.specs.declared.Opening.{Opening}
 use Rattle.rule.specs.declared.Settings.{Settings}
+use Rattle.rule.specs.declared.Size.{Size}
+use Rattle.rule.specs.declared.Size.the-variants.{Steps, Base}
 use Rattle.rule.specs.declared.State.{State}
 use Rattle.rule.specs.declared.Tally.{Tally}
 use Rattle.rule.specs.Answers.{number, place}
 use Rattle.rule.specs.Bytes.{recordsOf, saved}
-use Rattle.rule.specs.Calls.{Check, Verdict, accepted, admitted, checked, counted, fileVerdict, found, foundOf, gapsKept, grown, isHeld, kept, late, lateVerdict, loadVerdict, loaded, lookupOutcome, measured, nextVerdict, refused, traced, worstOutcome, writeVerdict, wrote}
-use Rattle.rule.specs.Numbers.{most, recordWidth, slotWidth, tallyMost, ticks, word}
+use Rattle.rule.specs.Calls.{Check, Verdict, accepted, admitted, baseOf, checked, counted, fileVerdict, found, foundOf, gapsKept, grown, isHeld, kept, late, lateVerdict, loadVerdict, loaded, lookupOutcome, measured, nextVerdict, refused, sizeGood, traced, worstOutcome, writeVerdict, wrote}
+use Rattle.rule.specs.Numbers.{most, mostBase, recordWidth, slotWidth, tallyMost, ticks, word}
 use Rattle.rule.specs.Files.{Finds, FirstBroken, meets}
-use Rattle.rule.specs.Room.{laid, signed, gapsBounded, gapsGood, roomy, runsAllowed, sound, stepsGood, tableOf}
+use Rattle.rule.specs.Room.{bounded, laid, signed, gapsGood, roomy, runsAllowed, sound, tableOf}
 use Rattle.rule.specs.Rules.{Fault, fault, firstFault, follows, isWhole, placeOr, ruled, whole}
-use Rattle.rule.specs.Table.{Table, accept, holding, insert, limitOver, needed, runs, single}
+use Rattle.rule.specs.Table.{Table, accept, holding, insert, limit, limitOver, needed, runs, single}
 use Rattle.rule.proofs.Merging.{settle-runs}
 use Rattle.rule.proofs.Ruling.{Meets, facts-meets, first-is-first, meets-facts}
 use Rattle.rule.proofs.Signed.{signed-fits}
+use Rattle.rooms.proofs.Bounds.{size-base}
+use Rattle.rooms.proofs.Granting.{loaded-kept, opened-kept}
 use Rattle.rooms.proofs.Laying.{drop-laid}
 use Rattle.rooms.specs.Steps.{Ready}
 use Rattle.rooms.proofs.Sounding.{sound-facts, used-needed}
@@ -36,7 +41,7 @@ use Rattle.over.specs.Search.{firstOver, searchOutcome, sought, soughtOf}
 use Rattle.storage.proofs.Filing.{load-accepts, load-leaves, loads-needed}
 use Rattle.answered.proofs.Outcomes.{traced-refused}
 use Rattle.rule.proofs.Whole.{by-test}
-use Rattle.answered.specs.Answered.{Answered, Demand1, Lawful, Row, fileRows, firstOf, lateRows, lookupRows, nextRows, openRows, outside, refusing, said, slotsNeeded, saidFound, saidMeasured, saidSought, saidWritten, searchRows, worstRows, writeRows}
+use Rattle.answered.specs.Answered.{Answered, Demand1, Lawful, Row, baseNamed, fileRows, firstOf, lateRows, lookupRows, mostSteps, namedBy, nextRows, openRows, outside, refusing, said, sizeOutside, slotsNeeded, saidFound, saidMeasured, saidSought, saidWritten, searchRows, worstRows, writeRows}
 
 -- ---- a call's checks and the table's rows
 
@@ -58,19 +63,26 @@ said-all l a = said-checks l (accepted a) [] refl
 not-leb : (a b : ℕ) → not (leb a b) ≡ ltb b a
 not-leb a b = by-test (leb a b) (λ h. rw (h, le-ltb b a (leb-true a b h))) (λ h. rw (h, lt-ltb b a (leb-false a b h)))
 
-bounds : (n : ℕ) → not (leb 1 n && leb n most) ≡ outside n
-unfolding outside
-bounds zero = refl
-bounds (suc n) = rw (le-leb 1 (suc n) (omega arith), ne-eqb (suc n) 0 (λ e. omega arith)) (not-leb (suc n) most)
+bounds : (top n : ℕ) → not (bounded top n) ≡ outside top n
+unfolding bounded outside
+bounds top zero = refl
+bounds top (suc n) = rw (le-leb 1 (suc n) (omega arith), ne-eqb (suc n) 0 (λ e. omega arith)) (not-leb (suc n) top)
 
-steps-due : (g : Settings) → not (stepsGood g) ≡ outside (g .steps)
-unfolding stepsGood
-steps-due g = bounds (g .steps)
+size-due : (z : Size) → not (sizeGood z) ≡ sizeOutside z
+unfolding sizeGood sizeOutside
+size-due (Steps b) = bounds most b
+size-due (Base c) = bounds mostBase c
 
-gaps-due : (k : Kind) (gaps : ℕ) → not (gapsGood k (gapsKept k gaps)) ≡ late k && outside gaps
-unfolding gapsGood gapsKept late gapsBounded
+-- the base limit kept is the one that is named
+pub base-is : (z : Size) → baseOf z ≡ baseNamed z
+unfolding baseOf baseNamed
+base-is (Steps b) = refl
+base-is (Base c) = refl
+
+gaps-due : (k : Kind) (gaps : ℕ) → not (gapsGood k (gapsKept k gaps)) ≡ late k && outside 256 gaps
+unfolding gapsGood gapsKept late
 gaps-due InOrder gaps = refl
-gaps-due Late gaps = bounds gaps
+gaps-due Late gaps = bounds most gaps
 
 runs-due : (k : Kind) (gaps n : ℕ) → not (runsAllowed k (gapsKept k gaps) n) ≡ late k && ltb gaps n
 unfolding runsAllowed gapsKept late
@@ -83,16 +95,19 @@ unfolding limitOver late
 limit-is InOrder base n = omega arith
 limit-is Late base n = refl
 
+pub limit-named : (g : Opening) (n : ℕ) → limit (kept g) n ≡ mostSteps (namedBy g) n
+limit-named g n = limit-is (g .kind) (baseOf (g .size)) n ∙ ap (λ (c : ℕ). c + cond (late (g .kind)) n 0) (base-is (g .size))
+
 -- in order K plays no part
 needed-over : (k : Kind) (base gaps : ℕ) → limitOver k base (gapsKept k gaps) ≡ base + cond (late k) gaps 0
 unfolding limitOver late gapsKept
 needed-over InOrder base gaps = omega arith
 needed-over Late base gaps = refl
 
-pub needed-is : (g : Settings) → needed (kept g) ≡ slotsNeeded g
-needed-is g = ap (λ (n : ℕ). n + 1) (needed-over (g .kind) (2 * g .steps) (g .gaps))
+pub needed-is : (g : Opening) → needed (kept g) ≡ slotsNeeded (namedBy g)
+needed-is g = ap (λ (n : ℕ). n + 1) (needed-over (g .kind) (baseOf (g .size)) (g .gaps) ∙ ap (λ (c : ℕ). c + cond (late (g .kind)) (g .gaps) 0) (base-is (g .size)))
 
-room-due : (g : Settings) (l : List ℤ) → not (roomy (kept g) l) ≡ ltb (length l) (4 * slotsNeeded g)
+room-due : (g : Opening) (l : List ℤ) → not (roomy (kept g) l) ≡ ltb (length l) (4 * slotsNeeded (namedBy g))
 unfolding roomy
 room-due g l = not-leb (slotWidth * needed (kept g)) (length l) ∙ ap (λ (n : ℕ). ltb (length l) (4 * n)) (needed-is g)
 
@@ -104,7 +119,7 @@ enough Late base n e = omega arith
 
 accepted-runs : (s : Settings) (t : Table) (tick : ℕ) (v : ℤ) → late (s .kind) ≡ true → runs (insert (single tick v) t) ≡ runs (accept s t tick v)
 unfolding accept
-accepted-runs s t tick v e = sym (settle-runs s (insert (single tick v) t) (enough (s .kind) (2 * s .steps) (runs (insert (single tick v) t)) e))
+accepted-runs s t tick v e = sym (settle-runs s (insert (single tick v) t) (enough (s .kind) (s .base) (runs (insert (single tick v) t)) e))
 
 -- ---- the answers
 
@@ -128,9 +143,9 @@ written form out (accepted t) rows e = record { exactly = e; untouched = λ q f.
 
 -- ---- each call's chain
 
-admits : (g : Settings) (l : List ℤ) (v : Verdict Table) (rows : List Row) → said v ≡ firstOf rows → said (admitted (kept g) l v) ≡ firstOf (openRows g l ++ rows)
+admits : (g : Opening) (l : List ℤ) (v : Verdict Table) (rows : List Row) → said v ≡ firstOf rows → said (admitted g l v) ≡ firstOf (openRows g l ++ rows)
 unfolding admitted
-admits g l v rows e = said-checks _ v rows e ∙ rw (steps-due (kept g), gaps-due (g .kind) (g .gaps), room-due g l)
+admits g l v rows e = said-checks _ v rows e ∙ rw (size-due (g .size), gaps-due (g .kind) (g .gaps), room-due g l)
 
 writes : (s : State) (l : List ℤ) (places taken : ℕ) → said (writeVerdict s l taken places) ≡ firstOf (writeRows s l places taken)
 unfolding writeVerdict
@@ -173,10 +188,10 @@ told t used (accepted s) r e = absurd (none-given r e)
 
 -- ---- load, and 8's place
 
-loading : (g : Settings) (file : List ℕ) (l : List ℤ) → said (loadVerdict (kept g) file l) ≡ firstOf (openRows g l ++ fileRows g file)
+loading : (g : Opening) (file : List ℕ) (l : List ℤ) → said (loadVerdict g file l) ≡ firstOf (openRows g l ++ fileRows g file)
 unfolding fileVerdict ruled
 loading g file l =
-    admits g l _ _ (said-all _ _ ∙ rw (runs-due (g .kind) (g .gaps) (runs (recordsOf file)), limit-is (g .kind) (2 * g .steps) (runs (recordsOf file))))
+    admits g l _ _ (said-all _ _ ∙ rw (runs-due (g .kind) (g .gaps) (runs (recordsOf file)), limit-named g (runs (recordsOf file))))
 
 -- a row of another number is not the one given
 other : (n : ℕ) (c : Bool) (rows : List Row) (i : ℕ) → (n ≡ 8 → ⊥) → firstOf (refusing n c ∷ rows) ≡ some (8, i) → firstOf rows ≡ some (8, i)
@@ -199,7 +214,7 @@ no-row : (r : ℕ × ℕ) → firstOf [] ≡ some r → ⊥
 unfolding firstOf
 no-row r e = none-given r e
 
-eighth : (g : Settings) (file : List ℕ) (l : List ℤ) (i : ℕ) → firstOf (openRows g l ++ fileRows g file) ≡ some (8, i) → FirstBroken (g .kind) file i
+eighth : (g : Opening) (file : List ℕ) (l : List ℤ) (i : ℕ) → firstOf (openRows g l ++ fileRows g file) ≡ some (8, i) → FirstBroken (g .kind) file i
 unfolding ruled
 eighth g file l i e =
     first-of (g .kind) file (firstFault (g .kind) 0 0 (recordsOf file)) _ i
@@ -207,8 +222,14 @@ eighth g file l i e =
     (first-is-first (g .kind) file)
     (other 7 _ _ i (λ n. omega arith) (other 3 _ _ i (λ n. omega arith) (other 2 _ _ i (λ n. omega arith) (other 1 _ _ i (λ n. omega arith) e))))
 
-loaded-said : (g : Settings) (file : List ℕ) (l : List ℤ) → said (loaded g file l .0) ≡ firstOf (openRows g l ++ fileRows g file)
-loaded-said g file l = answered (kept g) l (loadVerdict (kept g) file l) (openRows g l ++ fileRows g file) (loading g file l) .exactly
+loaded-said : (g : Opening) (file : List ℕ) (l : List ℤ) → said (loaded g file l .0) ≡ firstOf (openRows g l ++ fileRows g file)
+loaded-said g file l = answered (kept g) l (loadVerdict g file l) (openRows g l ++ fileRows g file) (loading g file l) .exactly
+
+-- ---- B is C = 2B
+
+doubled : (k : Kind) (b gaps : ℕ) → kept (record { kind = k; size = Steps b; gaps = gaps }) ≡ kept (record { kind = k; size = Base (2 * b); gaps = gaps })
+unfolding baseOf
+doubled k b gaps = refl
 
 -- ---- the record rules
 
@@ -237,19 +258,19 @@ module _ (g : Settings) (l : List ℤ) where
   unfolding traced
   accepted-past t h = drop-laid (needed g) t l h (needed g) (omega arith)
 
-named-past : (g : Settings) (l m : List ℤ) → drop (slotWidth * needed (kept g)) m ≡ drop (slotWidth * needed (kept g)) l → drop (4 * slotsNeeded g) m ≡ drop (4 * slotsNeeded g) l
+named-past : (g : Opening) (l m : List ℤ) → drop (slotWidth * needed (kept g)) m ≡ drop (slotWidth * needed (kept g)) l → drop (4 * slotsNeeded (namedBy g)) m ≡ drop (4 * slotsNeeded (namedBy g)) l
 named-past g l m e = subst (λ (n : ℕ). drop (slotWidth * n) m ≡ drop (slotWidth * n) l) (needed-is g) e
 
 -- a reading's settings are kept ones
 read-past : (s : State) (l m : List ℤ) → drop (slotWidth * needed (s .settings)) m ≡ drop (slotWidth * needed (s .settings)) l → drop (4 * slotsNeeded (s .settings)) m ≡ drop (4 * slotsNeeded (s .settings)) l
-read-past s l m e = subst (λ (n : ℕ). drop (slotWidth * n) m ≡ drop (slotWidth * n) l) (ap (λ (n : ℕ). n + 1) (limit-is (s .settings .kind) (2 * s .settings .steps) (s .settings .gaps))) e
+read-past s l m e = subst (λ (n : ℕ). drop (slotWidth * n) m ≡ drop (slotWidth * n) l) (ap (λ (n : ℕ). n + 1) (limit-is (s .settings .kind) (s .settings .base) (s .settings .gaps))) e
 
 taken-past : (s : State) (l : List ℤ) (at k tick : ℕ) (v : ℤ) → Ready s l at k tick v → signed v ≡ true → tick < word → Past (s .settings) l (accepted (accept (s .settings) (tableOf s l) tick v))
 taken-past s l at k tick v r range small =
     accepted-past (s .settings) l _ (omega (arith, taken-short s l at k tick v r (signed-fits v range) small, used-needed s l (sound-facts s l (r .fit))))
 
-load-past : (g : Settings) (file : List ℕ) (l : List ℤ) (o : Verdict State × List ℤ) → loaded g file l ≡ o → drop (slotWidth * needed (kept g)) (o .1) ≡ drop (slotWidth * needed (kept g)) l
-load-past g file l (refused r, m) e = ap (drop (slotWidth * needed (kept g))) (traced-refused (kept g) l (loadVerdict (kept g) file l) r m e)
+load-past : (g : Opening) (file : List ℕ) (l : List ℤ) (o : Verdict State × List ℤ) → loaded g file l ≡ o → drop (slotWidth * needed (kept g)) (o .1) ≡ drop (slotWidth * needed (kept g)) l
+load-past g file l (refused r, m) e = ap (drop (slotWidth * needed (kept g))) (traced-refused (kept g) l (loadVerdict g file l) r m e)
 load-past g file l (accepted t, m) e =
     let a = load-accepts g file l t (ap (λ (o : Verdict State × List ℤ). o .0) e) in
     let left : m ≡ laid (needed (kept g)) (recordsOf file) l = ap (λ (o : Verdict State × List ℤ). o .1) (sym e ∙ load-leaves g file l (a .0) (a .1)) in
@@ -258,7 +279,7 @@ load-past g file l (accepted t, m) e =
 pub demand1 : Demand1
 unfolding nextVerdict lateVerdict lookupOutcome writeVerdict ruled said firstOf
 demand1 = record {
-  opens = λ g l. answered (kept g) l (admitted (kept g) l (accepted [])) (openRows g l) (admits g l (accepted []) [] refl);
+  opens = λ g l. answered (kept g) l (admitted g l (accepted [])) (openRows g l) (admits g l (accepted []) [] refl);
   nexts = λ s l v. answered (s .settings) l (nextVerdict s l v) (nextRows s l) (said-all _ _);
   lates = λ s l tick v. answered (s .settings) l (lateVerdict s l tick v) (lateRows s l tick v)
       (said-all _ _ ∙ by-test (late (s .settings .kind)) (λ h. rw (accepted-runs (s .settings) (tableOf s l) tick v h)) (λ h. rw h));
@@ -267,8 +288,11 @@ demand1 = record {
   worsts = worst-said;
   rows = λ s l out. written (λ t. t) out (writeVerdict s l (s .used) (length out)) (writeRows s l (length out) (s .used)) (writes s l (length out) (s .used));
   saves = λ s l out. written saved out (writeVerdict s l (recordWidth * s .used) (length out)) (writeRows s l (length out) (recordWidth * s .used)) (writes s l (length out) (recordWidth * s .used));
-  loads = λ g file l. answered (kept g) l (loadVerdict (kept g) file l) (openRows g l ++ fileRows g file)
+  loads = λ g file l. answered (kept g) l (loadVerdict g file l) (openRows g l ++ fileRows g file)
       (loading g file l);
+  one-law = λ z. sym (size-due z) ∙ ap not (size-base z) ∙ bounds mostBase (baseOf z) ∙ ap (outside 512) (base-is z);
+  same-open = λ k b gaps l. opened-kept _ _ (doubled k b gaps) l;
+  same-load = λ k b gaps file l. loaded-kept _ _ (doubled k b gaps) file l;
   places = λ g file l i e. eighth g file l i (sym (loaded-said g file l) ∙ e);
   breaks = λ k file i inside broken. by-test (isWhole (firstFault k 0 0 (recordsOf file))) (λ h. absurd (false≢true (sym broken ∙ all-meet k file (firstFault k 0 0 (recordsOf file)) h (first-is-first k file) i inside))) (λ h. h);
   rules = λ k e b. (λ h. lawful k e b (meets-facts k e b h), λ h. facts-meets k e b (law-meets k e b h));

@@ -8,7 +8,6 @@ use native.Mathlib.Omega.{arith}
 use borrow.Author.Tests.{eq-eqb, eqb-true, le-leb, leb-true}
 use lib.IntN.{ℤ, pos, negsuc, natAbs}
 use lib.ListN.{drop, getD, length, length-drop, take}
-use lib.Dec.{leb}
 use lib.Signed.{leZ}
 use mir.Syntax.{w32}
 use mir.Val.{SFits}
@@ -18,15 +17,15 @@ use Rattle.rule.specs.declared.Kind.the-variants.{InOrder, Late}
 use Rattle.rule.specs.declared.State.{State}
 use Rattle.rule.specs.Bucket.{end}
 use Rattle.rule.specs.Calls.{late}
-use Rattle.rule.specs.Numbers.{most, slotWidth}
-use Rattle.rule.specs.Room.{allZero, field, gapsBounded, gapsGood, ranged, restZero, runsAllowed, signed, slot, slotRanged, slots, sound, stepsGood, tableOf, unsigned}
+use Rattle.rule.specs.Numbers.{most, mostBase, slotWidth}
+use Rattle.rule.specs.Room.{allZero, field, gapsGood, ranged, restZero, runsAllowed, signed, slot, slotRanged, slots, sound, tableOf, unsigned}
 use Rattle.rule.specs.Rules.{equal}
 use Rattle.rule.specs.Table.{Table, needed, readings, runs}
 use Rattle.rule.proofs.Ruling.{Ruled, and-both, and-left, and-right}
 use Rattle.rule.proofs.Signed.{equal-same, fits-signed, fits-unsigned, signed-fits, unsigned-fits}
 use Rattle.rule.proofs.Whole as wholes
 use Rattle.rooms.proofs.Sounding.{facts-sound, sound-facts}
-use Rattle.rooms.proofs.Bounds.{steps-bounds}
+use Rattle.rooms.proofs.Bounds.{bounds, in-bounds}
 use Rattle.rooms.proofs.Laying.{length-slots}
 use Rattle.answered.specs.Answered.{slotsNeeded}
 use Rattle.answered.specs.Sound.{Follow, Lie, Soundness, Stands, Whole}
@@ -146,9 +145,9 @@ past (z ∷ l) (suc m) j d = let e : suc m + j ≡ suc (m + j) = omega arith in 
 -- ---- settings
 
 gaps-late : (k : Kind) (n : ℕ) → gapsGood k n ≡ true → late k ≡ true → (1 ≤ n) × (n ≤ 256)
-unfolding gapsGood gapsBounded late
+unfolding gapsGood late
 gaps-late InOrder n h e = absurd (false≢true e)
-gaps-late Late n h e = (leb-true 1 n (and-left (leb 1 n) (leb n most) h), leb-true n most (and-right (leb 1 n) (leb n most) h))
+gaps-late Late n h e = bounds most n h
 
 gaps-none : (k : Kind) (n : ℕ) → gapsGood k n ≡ true → late k ≡ false → n ≡ 0
 unfolding gapsGood late
@@ -156,9 +155,9 @@ gaps-none InOrder n h e = eqb-true n 0 h
 gaps-none Late n h e = absurd (true≢false e)
 
 gaps-good : (k : Kind) (n : ℕ) → (late k ≡ true → (1 ≤ n) × (n ≤ 256)) → (late k ≡ false → n ≡ 0) → gapsGood k n ≡ true
-unfolding gapsGood gapsBounded late
+unfolding gapsGood late
 gaps-good InOrder n h e = eq-eqb n 0 (e refl)
-gaps-good Late n h e = and-both (le-leb 1 n (h refl .0)) (le-leb n most (h refl .1))
+gaps-good Late n h e = in-bounds most n (h refl)
 
 allowed-late : (k : Kind) (gaps runs : ℕ) → runsAllowed k gaps runs ≡ true → late k ≡ true → runs ≤ gaps
 unfolding runsAllowed late
@@ -174,7 +173,7 @@ late-allowed Late gaps runs h = le-leb runs gaps (h refl)
 
 module _ (s : State) (l : List ℤ) where
   many : needed (s .settings) ≡ slotsNeeded (s .settings)
-  many = ap (λ (n : ℕ). n + 1) (limit-is (s .settings .kind) (2 * s .settings .steps) (s .settings .gaps))
+  many = ap (λ (n : ℕ). n + 1) (limit-is (s .settings .kind) (s .settings .base) (s .settings .gaps))
 
   whole : sound s l ≡ true → Whole s l
   unfolding restZero
@@ -182,7 +181,7 @@ module _ (s : State) (l : List ℤ) where
       let f = sound-facts s l h in
       let k = s .settings .kind in
       record {
-        steps = steps-bounds (s .settings) (f .steps-good);
+        base = bounds mostBase (s .settings .base) (f .base-good);
         gaps-late = gaps-late k (s .settings .gaps) (f .gaps-good);
         gaps-in-order = gaps-none k (s .settings .gaps) (f .gaps-good);
         room = omega (arith, many, f .long);
@@ -190,7 +189,7 @@ module _ (s : State) (l : List ℤ) where
         used = sym (length-slots l 0 (s .used));
         lie = lies l 0 (s .used) (f .ranges);
         rules = follow k 0 (tableOf s l) (f .rules);
-        few = omega (arith, f .few, limit-is k (2 * s .settings .steps) (s .runs));
+        few = omega (arith, f .few, limit-is k (s .settings .base) (s .runs));
         allowed = allowed-late k (s .settings .gaps) (s .runs) (f .allowed);
         runs = f .true-runs;
         readings = f .true-readings;
@@ -201,16 +200,16 @@ module _ (s : State) (l : List ℤ) where
       }
 
   whole-sound : Whole s l → sound s l ≡ true
-  unfolding restZero stepsGood
+  unfolding restZero
   whole-sound w =
       let k = s .settings .kind in
       let same : tableOf s l ≡ w .buckets = ap (slots l 0) (w .used) ∙ lies-slots l 0 (w .buckets) (w .lie) in
       facts-sound s l (record {
-        steps-good = and-both (le-leb 1 (s .settings .steps) (w .steps .0)) (le-leb (s .settings .steps) most (w .steps .1));
+        base-good = in-bounds mostBase (s .settings .base) (w .base);
         gaps-good = gaps-good k (s .settings .gaps) (w .gaps-late) (w .gaps-in-order);
         allowed = late-allowed k (s .settings .gaps) (s .runs) (w .allowed);
         long = omega (arith, many, w .room);
-        few = omega (arith, w .few, limit-is k (2 * s .settings .steps) (s .runs));
+        few = omega (arith, w .few, limit-is k (s .settings .base) (s .runs));
         ranges = ap (ranged l 0) (w .used) ∙ lies-ranged l 0 (w .buckets) (w .lie);
         rules = subst (Ruled k 0) (sym same) (followed k 0 (w .buckets) (w .rules));
         true-runs = w .runs ∙ ap runs (sym same);

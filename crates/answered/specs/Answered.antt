@@ -11,7 +11,10 @@ use lib.Signed.{leZ}
 use Rattle.rule.specs.declared.Bucket.{Bucket}
 use Rattle.rule.specs.declared.Found.{Found}
 use Rattle.rule.specs.declared.Kind.{Kind}
+use Rattle.rule.specs.declared.Opening.{Opening}
 use Rattle.rule.specs.declared.Settings.{Settings}
+use Rattle.rule.specs.declared.Size.{Size}
+use Rattle.rule.specs.declared.Size.the-variants.{Steps, Base}
 use Rattle.rule.specs.declared.State.{State}
 use Rattle.rule.specs.declared.Tally.{Tally}
 use Rattle.rule.specs.declared.Written.{Written}
@@ -44,31 +47,45 @@ unfoldable pub firstOf : List Row → Option (ℕ × ℕ)
 firstOf [] = none
 firstOf (r ∷ rs) = cond (r .due) (some (r .number, r .place)) (firstOf rs)
 
--- 0 or above 256
-unfoldable pub outside : ℕ → Bool
-outside n = eqb n 0 || ltb 256 n
+-- 0 or above the top
+unfoldable pub outside : ℕ → ℕ → Bool
+outside top n = eqb n 0 || ltb top n
 
--- at most 2B steps, late one more for each of so many runs
+-- B is 0 or above 256, or C is 0 or above 512
+unfoldable pub sizeOutside : Size → Bool
+sizeOutside (Steps b) = outside 256 b
+sizeOutside (Base c) = outside 512 c
+
+-- the base limit that is named: 2B, or C itself
+unfoldable pub baseNamed : Size → ℕ
+baseNamed (Steps b) = 2 * b
+baseNamed (Base c) = c
+
+-- what an opening names, C in the place of B
+abbrev pub namedBy : Opening → Settings
+namedBy g = record { kind = g .kind; base = baseNamed (g .size); gaps = g .gaps }
+
+-- at most C steps, late one more for each of so many runs
 abbrev pub mostSteps : Settings → ℕ → ℕ
-mostSteps g runs = 2 * g .steps + cond (late (g .kind)) runs 0
+mostSteps s runs = s .base + cond (late (s .kind)) runs 0
 
 -- the slots that a trace needs, by K
 abbrev pub slotsNeeded : Settings → ℕ
-slotsNeeded g = mostSteps g (g .gaps) + 1
+slotsNeeded s = mostSteps s (s .gaps) + 1
 
-abbrev pub openRows : Settings → List ℤ → List Row
+abbrev pub openRows : Opening → List ℤ → List Row
 openRows g l =
-    refusing 1 (outside (g .steps))
-    ∷ refusing 2 (late (g .kind) && outside (g .gaps))
-    ∷ refusing 3 (ltb (length l) (4 * slotsNeeded g))
+    refusing 1 (sizeOutside (g .size))
+    ∷ refusing 2 (late (g .kind) && outside 256 (g .gaps))
+    ∷ refusing 3 (ltb (length l) (4 * slotsNeeded (namedBy g)))
     ∷ []
 
-abbrev pub fileRows : Settings → List ℕ → List Row
+abbrev pub fileRows : Opening → List ℕ → List Row
 fileRows g file =
     refusing 7 (not (eqb (length file % 16) 0))
     ∷ record { number = 8; place = placeOr 0 (firstFault (g .kind) 0 0 (recordsOf file)); due = not (ruled (g .kind) (recordsOf file)) }
     ∷ refusing 9 (late (g .kind) && ltb (g .gaps) (runs (recordsOf file)))
-    ∷ refusing 10 (ltb (mostSteps g (runs (recordsOf file))) (length (recordsOf file)))
+    ∷ refusing 10 (ltb (mostSteps (namedBy g) (runs (recordsOf file))) (length (recordsOf file)))
     ∷ []
 
 abbrev pub nextRows : State → List ℤ → List Row
@@ -154,7 +171,7 @@ pub record Answered {A : Type 0} (says : Option (ℕ × ℕ)) (rows : List Row) 
   pub untouched : (r : ℕ × ℕ) → says ≡ some r → after ≡ before
 
 pub record Demand1 : Type 0 where
-  pub opens : (g : Settings) (l : List ℤ) → let o = opened g l in Answered (said (o .0)) (openRows g l) l (o .1)
+  pub opens : (g : Opening) (l : List ℤ) → let o = opened g l in Answered (said (o .0)) (openRows g l) l (o .1)
   pub nexts : (s : State) (l : List ℤ) (v : ℤ) → let o = nextOutcome s l v in Answered (said (o .0)) (nextRows s l) l (o .1)
   pub lates : (s : State) (l : List ℤ) (tick : ℕ) (v : ℤ) → let o = lateOutcome s l tick v in Answered (said (o .0)) (lateRows s l tick v) l (o .1)
   pub lookups : (s : State) (l : List ℤ) (tick : ℕ) → saidFound (lookupOutcome s l tick) ≡ firstOf (lookupRows s l tick)
@@ -162,17 +179,22 @@ pub record Demand1 : Type 0 where
   pub worsts : (s : State) (l : List ℤ) → saidMeasured (worstOutcome s l) ≡ firstOf (worstRows s l)
   pub rows : (s : State) (l : List ℤ) (out : List Bucket) → let o = rowOutcome s l out in Answered (saidWritten (o .0)) (writeRows s l (length out) (s .used)) out (o .1)
   pub saves : (s : State) (l : List ℤ) (out : List ℕ) → let o = saveOutcome s l out in Answered (saidWritten (o .0)) (writeRows s l (length out) (16 * s .used)) out (o .1)
-  pub loads : (g : Settings) (file : List ℕ) (l : List ℤ) → let o = loaded g file l in Answered (said (o .0)) (openRows g l ++ fileRows g file) l (o .1)
+  pub loads : (g : Opening) (file : List ℕ) (l : List ℤ) → let o = loaded g file l in Answered (said (o .0)) (openRows g l ++ fileRows g file) l (o .1)
+  -- B is C = 2B: refusal 1 is one law of the base limit, and open and load answer and leave the same, refused or not; every other call reads the state alone
+  pub one-law : (z : Size) → sizeOutside z ≡ outside 512 (baseNamed z)
+  pub same-open : (k : Kind) (b gaps : ℕ) (l : List ℤ) → opened (record { kind = k; size = Steps b; gaps = gaps }) l ≡ opened (record { kind = k; size = Base (2 * b); gaps = gaps }) l
+  pub same-load : (k : Kind) (b gaps : ℕ) (file : List ℕ) (l : List ℤ)
+      → loaded (record { kind = k; size = Steps b; gaps = gaps }) file l ≡ loaded (record { kind = k; size = Base (2 * b); gaps = gaps }) file l
   -- 8: the record at its place is the file's, it breaks a rule, and all before it meet them; and it is due wherever a record breaks one
-  pub places : (g : Settings) (file : List ℕ) (l : List ℤ) (i : ℕ) → said (loaded g file l .0) ≡ some (8, i) → FirstBroken (g .kind) file i
+  pub places : (g : Opening) (file : List ℕ) (l : List ℤ) (i : ℕ) → said (loaded g file l .0) ≡ some (8, i) → FirstBroken (g .kind) file i
   pub breaks : (k : Kind) (file : List ℕ) (i : ℕ) → i < length file / 16 → meets k file i ≡ false → ruled k (recordsOf file) ≡ false
   -- the record rules, in 01's words
   pub rules : (k : Kind) (e : ℕ) (b : Bucket) → (allOf (rules k e b) ≡ true → Lawful k e b) × (Lawful k e b → allOf (rules k e b) ≡ true)
   -- slots past the needed number are never written
-  pub past-open : (g : Settings) (l : List ℤ) → drop (4 * slotsNeeded g) (opened g l .1) ≡ drop (4 * slotsNeeded g) l
+  pub past-open : (g : Opening) (l : List ℤ) → drop (4 * slotsNeeded (namedBy g)) (opened g l .1) ≡ drop (4 * slotsNeeded (namedBy g)) l
   pub past-next : (s : State) (l : List ℤ) (v : ℤ) → signed v ≡ true → drop (4 * slotsNeeded (s .settings)) (nextOutcome s l v .1) ≡ drop (4 * slotsNeeded (s .settings)) l
   pub past-late : (s : State) (l : List ℤ) (tick : ℕ) (v : ℤ) → signed v ≡ true → drop (4 * slotsNeeded (s .settings)) (lateOutcome s l tick v .1) ≡ drop (4 * slotsNeeded (s .settings)) l
-  pub past-load : (g : Settings) (file : List ℕ) (l : List ℤ) → drop (4 * slotsNeeded g) (loaded g file l .1) ≡ drop (4 * slotsNeeded g) l
+  pub past-load : (g : Opening) (file : List ℕ) (l : List ℤ) → drop (4 * slotsNeeded (namedBy g)) (loaded g file l .1) ≡ drop (4 * slotsNeeded (namedBy g)) l
   -- the one thing that a refused reading changes
   pub tally : (t : Tally) (used : ℕ) (o : Verdict State) (r : ℕ × ℕ) → said o ≡ some r
       → counted t used o ≡ record { accepted = t .accepted; refused = min (t .refused + 1) 4294967295; merges = t .merges }

@@ -36,8 +36,8 @@ Follow k e [] = Unit {0}
 Follow k e (b ∷ t) = Lawful k e b × Follow k (b .start + b .count) t
 
 pub record Whole (s : State) (l : List ℤ) : Type 0 where
-  -- B and K are in bounds, K is 0 in order
-  pub steps : (1 ≤ s .settings .steps) × (s .settings .steps ≤ 256)
+  -- C and K are in bounds, K is 0 in order
+  pub base : (1 ≤ s .settings .base) × (s .settings .base ≤ 512)
   pub gaps-late : late (s .settings .kind) ≡ true → (1 ≤ s .settings .gaps) × (s .settings .gaps ≤ 256)
   pub gaps-in-order : late (s .settings .kind) ≡ false → s .settings .gaps ≡ 0
   -- the room is long enough

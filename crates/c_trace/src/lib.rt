@@ -5,7 +5,7 @@ ghost use Rattle.plain.specs.Plain.{lateReply, loadReply, nextReply, openReply,
 use fields::Fields;
 use fields::Named;
 use fields::none;
-use fields::settings_of;
+use fields::opening_of;
 use fields::trace_of;
 use plain::Counted;
 use plain::Reply;
@@ -17,8 +17,8 @@ use trace::Trace;
 pub extern "C" fn ndz_open(named: Named, room: &mut [i64]) -> Reply
     ensures { λ r. ⌜ (r, now (room .exit)) ≡ openReply named (now (room .entry)) ⌝ }
 {
-    let settings = settings_of(named);
-    replying(none(), Trace::open(settings, &mut *room))
+    let opening = opening_of(named);
+    replying(none(), Trace::open(opening, &mut *room))
 }
 
 #[no_mangle]
@@ -49,6 +49,6 @@ pub extern "C" fn ndz_save(state: Fields, room: &[i64], out: &mut [u8]) -> Count
 pub extern "C" fn ndz_load(named: Named, file: &[u8], room: &mut [i64]) -> Reply
     ensures { λ r. ⌜ (r, now (room .exit)) ≡ loadReply named (now (file .entry)) (now (room .entry)) ⌝ }
 {
-    let wanted = settings_of(named);
+    let wanted = opening_of(named);
     replying(none(), saved::load(wanted, file, &mut *room))
 }

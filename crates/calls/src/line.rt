@@ -38,6 +38,10 @@ pub(crate) const TICK: usize = 9;
 
 pub(crate) const VALUE: usize = 10;
 
+pub(crate) const SIZE: usize = 11;
+
+pub(crate) const BY: usize = 12;
+
 // What is read so far of a line: its word, the name of the number at hand, letters of either, and the number.
 pub struct Reading {
     pub word: u64,
@@ -58,11 +62,11 @@ pub(crate) fn nothing() -> Reading {
 }
 
 fn place(name: u64) -> usize
-    ensures { λ r. ⌜ r < 12 ⌝ }
+    ensures { λ r. ⌜ r < 14 ⌝ }
 {
     match name {
         0x6b696e64 => 0,
-        0x7374657073 => 1,
+        0x62617365 => 1,
         0x67617073 => 2,
         0x75736564 => 3,
         0x72756e73 => 4,
@@ -72,7 +76,9 @@ fn place(name: u64) -> usize
         0x6174 => AT,
         0x7469636b => TICK,
         0x76616c7565 => VALUE,
-        _ => 11,
+        0x73697a65 => SIZE,
+        0x6279 => BY,
+        _ => 13,
     }
 }
 
@@ -121,6 +127,6 @@ impl Reading {
     }
 }
 
-pub(crate) fn put(given: &mut [u64; 12], reading: Reading) {
+pub(crate) fn put(given: &mut [u64; 14], reading: Reading) {
     given[place(reading.name)] = reading.value();
 }

@@ -5,13 +5,17 @@ mod show;
 
 ghost use Prim.Native.Nat.{_≤_};
 use line::AT;
+use line::BY;
 use line::BYTES;
 use line::NUMBERS;
 use line::Reading;
+use line::SIZE;
 use line::TICK;
 use line::VALUE;
 use rule::Kind;
+use rule::Opening;
 use rule::Settings;
+use rule::Size;
 use rule::State;
 use trace::Answer;
 use trace::Trace;
@@ -33,16 +37,34 @@ fn kind_of(number: u64) -> Kind {
     }
 }
 
-fn settings_of(given: &[u64; 12]) -> Settings {
+fn size_of(given: &[u64; 14]) -> Size {
+    if given[BY] == 0 {
+        Size::Steps(given[SIZE] as usize)
+    } else {
+        Size::Base(given[SIZE] as usize)
+    }
+}
+
+fn opening_of(given: &[u64; 14]) -> Opening {
     let kind = kind_of(given[0]);
-    Settings {
+    let size = size_of(given);
+    Opening {
         kind,
-        steps: given[1] as usize,
+        size,
         gaps: given[2] as usize,
     }
 }
 
-fn trace_of(given: &[u64; 12]) -> Trace {
+fn settings_of(given: &[u64; 14]) -> Settings {
+    let kind = kind_of(given[0]);
+    Settings {
+        kind,
+        base: given[1] as usize,
+        gaps: given[2] as usize,
+    }
+}
+
+fn trace_of(given: &[u64; 14]) -> Trace {
     Trace {
         state: State {
             settings: settings_of(given),
@@ -54,17 +76,19 @@ fn trace_of(given: &[u64; 12]) -> Trace {
 }
 
 // What names that are not given stand for: the state at hand, else 0.
-fn at_hand(trace: Trace) -> [u64; 12] {
+fn at_hand(trace: Trace) -> [u64; 14] {
     let state = trace.state;
     let settings = state.settings;
     let kind = settings.kind;
     [
         show::number_of(kind) as u64,
-        settings.steps as u64,
+        settings.base as u64,
         settings.gaps as u64,
         state.used as u64,
         state.runs as u64,
         state.readings as u64,
+        0,
+        0,
         0,
         0,
         0,
@@ -97,11 +121,11 @@ fn signed32(bits: u32) -> i32 {
     }
 }
 
-fn value(given: &[u64; 12]) -> i32 {
+fn value(given: &[u64; 14]) -> i32 {
     signed32((given[VALUE] % 4294967296) as u32)
 }
 
-fn tick(given: &[u64; 12]) -> u32 {
+fn tick(given: &[u64; 14]) -> u32 {
     (given[TICK] % 4294967296) as u32
 }
 
@@ -135,17 +159,17 @@ fn take(file: &mut [u8], output: &[u8], count: usize) {
     }
 }
 
-fn call(word: u64, given: &[u64; 12], trace: Trace, room: &mut [i64], file: &[u8]) -> Answer {
+fn call(word: u64, given: &[u64; 14], trace: Trace, room: &mut [i64], file: &[u8]) -> Answer {
     match word {
-        line::OPEN => Trace::open(settings_of(given), &mut *room),
+        line::OPEN => Trace::open(opening_of(given), &mut *room),
         line::NEXT => trace.next(&mut *room, value(given)),
         line::LATE => trace.late(&mut *room, tick(given), value(given)),
-        _ => saved::load(settings_of(given), file, &mut *room),
+        _ => saved::load(opening_of(given), file, &mut *room),
     }
 }
 
 // A reading, which hands back the trace that it was given where it is refused.
-fn read_on(word: u64, given: &[u64; 12], trace: Trace, room: &mut [i64]) -> Trace {
+fn read_on(word: u64, given: &[u64; 14], trace: Trace, room: &mut [i64]) -> Trace {
     let answer = call(word, given, trace, room, b"");
     show::answer(word, trace, answer);
     show::numbers(b" room ", room);
@@ -154,9 +178,9 @@ fn read_on(word: u64, given: &[u64; 12], trace: Trace, room: &mut [i64]) -> Trac
 }
 
 // An open or a load, which has none to hand back.
-fn begin(word: u64, given: &[u64; 12], trace: Trace, room: &mut [i64], file: &[u8]) -> Trace {
+fn begin(word: u64, given: &[u64; 14], trace: Trace, room: &mut [i64], file: &[u8]) -> Trace {
     let answer = call(word, given, trace, room, file);
-    show::answer(word, trace_of(&[0; 12]), answer);
+    show::answer(word, trace_of(&[0; 14]), answer);
     show::numbers(b" room ", room);
     if word == line::LOAD {
         show::bytes(b" file ", file);
@@ -166,7 +190,7 @@ fn begin(word: u64, given: &[u64; 12], trace: Trace, room: &mut [i64], file: &[u
 }
 
 // What hands back a trace.
-fn go_on(word: u64, given: &[u64; 12], held: Held, room: &mut [i64], file: &[u8]) -> Trace {
+fn go_on(word: u64, given: &[u64; 14], held: Held, room: &mut [i64], file: &[u8]) -> Trace {
     let numbers = least(held.numbers, room.len());
     let bytes = least(held.bytes, file.len());
     match word {
@@ -191,13 +215,13 @@ fn go_on(word: u64, given: &[u64; 12], held: Held, room: &mut [i64], file: &[u8]
     }
 }
 
-fn look(given: &[u64; 12], trace: Trace, room: &[i64]) {
+fn look(given: &[u64; 14], trace: Trace, room: &[i64]) {
     show::found(trace.lookup(room, tick(given)));
     show::numbers(b" room ", room);
     show::text(b"\n");
 }
 
-fn save(given: &[u64; 12], trace: Trace, room: &[i64], output: &mut [u8]) {
+fn save(given: &[u64; 14], trace: Trace, room: &[i64], output: &mut [u8]) {
     let count = least(given[BYTES] as usize, output.len());
     show::written(saved::save(trace, room, &mut output[0..count]));
     show::numbers(b" room ", room);
@@ -212,7 +236,7 @@ fn measure(trace: Trace, room: &[i64]) {
 }
 
 // A call that leaves the trace.
-fn ask(word: u64, given: &[u64; 12], held: Held, room: &[i64], output: &mut [u8]) {
+fn ask(word: u64, given: &[u64; 14], held: Held, room: &[i64], output: &mut [u8]) {
     let lent = &room[0..least(held.numbers, room.len())];
     match word {
         line::LOOKUP => look(given, held.trace, lent),
@@ -222,7 +246,7 @@ fn ask(word: u64, given: &[u64; 12], held: Held, room: &[i64], output: &mut [u8]
     }
 }
 
-fn change(word: u64, given: &[u64; 12], room: &mut [i64], file: &mut [u8], output: &[u8]) {
+fn change(word: u64, given: &[u64; 14], room: &mut [i64], file: &mut [u8], output: &[u8]) {
     if word == line::SET {
         put(room, given[AT] as usize, given[VALUE]);
         return;
@@ -237,7 +261,7 @@ fn change(word: u64, given: &[u64; 12], room: &mut [i64], file: &mut [u8], outpu
 }
 
 // How much is lent from now on.
-fn lent(word: u64, given: &[u64; 12], held: Held) -> Held {
+fn lent(word: u64, given: &[u64; 14], held: Held) -> Held {
     let mut next = held;
     if word == line::ROOM {
         next.numbers = given[NUMBERS] as usize;
@@ -250,7 +274,7 @@ fn lent(word: u64, given: &[u64; 12], held: Held) -> Held {
 
 fn obey(
     word: u64,
-    given: &[u64; 12],
+    given: &[u64; 14],
     held: Held,
     room: &mut [i64],
     file: &mut [u8],
@@ -268,7 +292,7 @@ fn obey(
 fn turn(
     byte: u8,
     held: Held,
-    given: &mut [u64; 12],
+    given: &mut [u64; 14],
     room: &mut [i64],
     file: &mut [u8],
     output: &mut [u8],
@@ -292,7 +316,7 @@ fn turn(
 }
 
 fn run(script: &[u8], room: &mut [i64], file: &mut [u8], output: &mut [u8]) {
-    let mut given = [0; 12];
+    let mut given = [0; 14];
     let mut held = Held {
         trace: trace_of(&given),
         numbers: 0,

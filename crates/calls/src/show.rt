@@ -43,7 +43,7 @@ fn state(trace: Trace) {
     let settings = state.settings;
     let kind = settings.kind;
     unsigned(number_of(kind) as u64);
-    unsigned(settings.steps as u64);
+    unsigned(settings.base as u64);
     unsigned(settings.gaps as u64);
     unsigned(state.used as u64);
     unsigned(state.runs as u64);

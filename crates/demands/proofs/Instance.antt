@@ -1,6 +1,6 @@
--- Document 01's own rule, with its lowest start and 2B, is one of the rules of which demand 3 is proved.
+-- Document 01's own rule, with its lowest start and any base limit, is one of the rules of which demand 3 is proved.
 use Prim.Native.Nat.{ℕ, zero, suc, _+_, _*_, _≤_, _<_}
-use mathlib.Core.Path.{sym, subst}
+use mathlib.Core.Path.{_≡_, sym, subst}
 use mathlib.Core.List.{List, [], _∷_}
 use native.Mathlib.Omega.{arith}
 use borrow.Author.Tests.{leb-true, leb-false}
@@ -35,10 +35,10 @@ merge-is t h =
 
 -- the table after the merges, with how many they were
 abbrev Settled : Settings → Table → Type 0
-Settled s t = (k : ℕ) × Settles (s .kind) (2 * s .steps) t (settle s t) k
+Settled s t = (k : ℕ) × Settles (s .kind) (s .base) t (settle s t) k
 
 rested : (s : Settings) (t : Table) → length t ≤ limit s (runs t) → Settled s t
-rested s t h = (0, subst (λ (u : Table). Settles (s .kind) (2 * s .steps) t u 0) (sym (settle-rests s t h)) (rests h))
+rested s t h = (0, subst (λ (u : Table). Settles (s .kind) (s .base) t u 0) (sym (settle-rests s t h)) (rests h))
 
 settles-in : (n : ℕ) (s : Settings) (t : Table) → length t ≤ n → Enough s t → Settled s t
 settles-in zero s t short enough = rested s t (omega arith)
@@ -50,7 +50,7 @@ settles-in (suc n) s t short enough =
     let fewer : runs t < length t = omega arith in
     let rest = settles-in n s (merge t) (omega (arith, merge-length t fewer)) (rw (merge-runs t fewer) enough) in (
       suc (rest .0),
-      subst (λ (u : Table). Settles (s .kind) (2 * s .steps) t u (suc (rest .0))) (sym (settle-merges s t enough over)) (merges over (merge-is t fewer) (rest .1)),
+      subst (λ (u : Table). Settles (s .kind) (s .base) t u (suc (rest .0))) (sym (settle-merges s t enough over)) (merges over (merge-is t fewer) (rest .1)),
     ))
 
 -- the limit leaves room for a bucket to each run
@@ -59,22 +59,22 @@ unfolding Joined limitOver
 enough-runs InOrder base runs h j = omega arith
 enough-runs Late base runs h j = omega arith
 
-pub instance-held : (s : Settings) (rs : List Reading) → 1 ≤ s .steps → Accepted s rs → (m : ℕ) × Held (s .kind) (2 * s .steps) rs (tableAfter s rs) m
+pub instance-held : (s : Settings) (rs : List Reading) → 1 ≤ s .base → Accepted s rs → (m : ℕ) × Held (s .kind) (s .base) rs (tableAfter s rs) m
 unfolding Accepted tableAfter accept
 instance-held s [] few a = (0, opened)
 instance-held s (r ∷ rs) few a =
     let before = instance-held s rs few (a .1) in
     let table : Table = insert (single (r .tick) (r .value)) (tableAfter s rs) in
     let invariant = reading-invariant (s .kind) rs (tableAfter s rs) (held-invariant (before .1)) r (a .0) in
-    let after = settles-in (length table) s table (omega arith) (enough-runs (s .kind) (2 * s .steps) (runs table) (omega arith) (invariant .joined)) in
+    let after = settles-in (length table) s table (omega arith) (enough-runs (s .kind) (s .base) (runs table) (omega arith) (invariant .joined)) in
     (after .0 + before .0, accepted r (before .1) (a .0) (after .1))
 
-pub demand3 : (s : Settings) (rs : List Reading) → 1 ≤ s .steps → Accepted s rs → (m : ℕ) × Served (s .kind) (2 * s .steps) rs (tableAfter s rs) m
+pub demand3 : (s : Settings) (rs : List Reading) → 1 ≤ s .base → Accepted s rs → (m : ℕ) × Served (s .kind) (s .base) rs (tableAfter s rs) m
 demand3 s rs few a =
     let held = instance-held s rs few a in
-    (held .0, served (s .kind) (2 * s .steps) rs (tableAfter s rs) (held .0) (omega arith) (held .1))
+    (held .0, served (s .kind) (s .base) rs (tableAfter s rs) (held .0) (omega arith) (held .1))
 
--- the picture is as near to the readings as any curve of at most B steps
-pub every-curve : (s : Settings) (rs : List Reading) → 1 ≤ s .steps → Accepted s rs
-    → (c : Curve) (E : ℕ) → steps c ≤ s .steps → Near E c rs → Shown E (tableAfter s rs) rs × (worst (tableAfter s rs) ≤ E)
-every-curve s rs few a c E h near = demand3 s rs few a .1 .picture c E (omega arith) near
+-- of a table of 2B: the picture is as near to the readings as any curve of at most B steps
+pub every-curve : (s : Settings) (rs : List Reading) (b : ℕ) → 1 ≤ b → s .base ≡ 2 * b → Accepted s rs
+    → (c : Curve) (E : ℕ) → steps c ≤ b → Near E c rs → Shown E (tableAfter s rs) rs × (worst (tableAfter s rs) ≤ E)
+every-curve s rs b few doubled a c E h near = demand3 s rs (omega arith) a .1 .picture c E (omega arith) near

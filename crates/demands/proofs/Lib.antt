@@ -1,4 +1,5 @@
 -- What the words of demand 3 mean, and why it holds: pairs, borders, coverage, and the theorem.
+pub mod Tight
 pub mod Worst
 pub mod Curves
 pub mod Borders

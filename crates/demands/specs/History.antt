@@ -1,5 +1,5 @@
 -- The accepted readings, newest first, and the tables that a rule which merges some cheapest neighbours can hold after them.
--- Nothing is said of ties, and the base limit is any number: document 01's rule, with its lowest start and 2B, is one of these.
+-- Nothing is said of ties, and the base limit is any number: document 01's rule, with its lowest start and the base limit kept, is one of these.
 use Prim.Native.Nat.{ℕ, zero, suc, _+_, _≤_, _<_}
 use mathlib.Core.Path.{_≡_}
 use mathlib.Core.Bool.{Bool, true, false, not, cond, _||_}

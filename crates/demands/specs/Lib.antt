@@ -2,3 +2,4 @@
 pub mod Curve
 pub mod History
 pub mod Served
+pub mod Tight

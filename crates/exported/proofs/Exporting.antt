@@ -1,12 +1,12 @@
 -- The exported functions keep the demands: each replies what its call answers, and what they reach is what the calls reach.
-use Prim.Native.Nat.{ℕ, _*_, _≤_, _<_}
+use Prim.Native.Nat.{ℕ, zero, suc, _+_, _*_, _/_, _≤_, _<_}
 use mathlib.Core.Path.{_≡_, refl, sym, ap, _∙_, subst}
 use mathlib.Core.Logic.{_≢_, ⊎-elim}
 use mathlib.Core.Bool.{Bool, true, false, cond}
 use mathlib.Core.List.{List, [], _∷_, _++_, List·Memᴰ, List·Memᴰ·cases-cons, List·Memᴰ·head, List·Memᴰ·not-nil, List·Memᴰ·tail, Memᴰ·append-right}
 use mathlib.Core.Option.{Option, some}
 use native.Mathlib.Omega.{arith}
-use borrow.Author.Tests.{eqb-false, le-ltb, lt-leb}
+use borrow.Author.Tests.{eqb-false, le-ltb, lt-leb, ne-eqb}
 use lib.Dec.{eqb, leb}
 use lib.IntN.{ℤ}
 use lib.ListN.{drop, length, take}
@@ -14,6 +14,7 @@ use lib.Signed.{leZ}
 use Rattle.rule.specs.declared.Bucket.{Bucket}
 use Rattle.rule.specs.declared.Refusal.{Refusal}
 use Rattle.rule.specs.declared.Refusal.the-variants.{Steps, Gaps, Room, Unsound, Kind, Tick, Length, Record, Runs, Overfull, Taken, Absent, Short, Line}
+use Rattle.rule.specs.declared.Opening.{Opening}
 use Rattle.rule.specs.declared.Settings.{Settings}
 use Rattle.rule.specs.declared.State.{State}
 use Rattle.rule.specs.declared.Tally.{Tally}
@@ -24,7 +25,7 @@ use Rattle.rule.specs.Bucket.{distance}
 use Rattle.rule.specs.Bytes.{saved}
 use Rattle.rule.specs.Calls.{Verdict, accepted, checked, counted, found, foundOf, grown, isHeld, kept, late, lateOutcome, lateVerdict, loaded, lookupOutcome, measured, nextOutcome, nextVerdict, opened, refused, rowOutcome, saveOutcome, traced, worstOutcome, writeVerdict, wrote}
 use Rattle.rule.specs.Numbers.{recordWidth, slotWidth, ticks}
-use Rattle.rule.specs.Room.{allOf, clauses, sound, stepsGood, tableOf}
+use Rattle.rule.specs.Room.{allOf, bounded, clauses, sound, tableOf}
 use Rattle.rule.specs.Table.{Table, holders, holding, holds, needed, worst}
 use Rattle.rule.proofs.Whole.{by-test, whole}
 use Rattle.rule.proofs.Tables.{held-within, one}
@@ -39,21 +40,23 @@ use Rattle.over.specs.Search.{searchOutcome, soughtOf}
 use Rattle.over.proofs.Searching as searching
 use Rattle.rule.specs.declared.Measured.{Measured}
 use Rattle.storage.proofs.RoundTrips.{loaded-saved, saved-loaded}
+use Rattle.demands.specs.Curve as curve
+use Rattle.demands.specs.Curve.{Curve}
 use Rattle.demands.specs.History.{Reading, arrived, tableAfter}
-use Rattle.demands.specs.Served.{Inside}
+use Rattle.demands.specs.Served.{Inside, Near}
 use Rattle.plain.specs.declared.Counted.{Counted}
 use Rattle.fields.specs.declared.Fields.{Fields}
 use Rattle.fields.specs.declared.Named.{Named}
 use Rattle.plain.specs.declared.Reply.{Reply}
-use Rattle.fields.specs.States.{fieldsOf, kindOf, none, numberOf, settingsOf, stateFrom}
+use Rattle.fields.specs.States.{fieldsOf, kindOf, none, numberOf, openingOf, sizeOf, stateFrom}
 use Rattle.plain.specs.Plain.{erring, lookupReply, pointing, replied, replying, showing, telling, told, worstReply}
 use Rattle.fields.proofs.SameState.{same-state}
-use Rattle.answered.specs.Answered.{Answered, Row, fileRows, firstOf, lateRows, lookupRows, nextRows, openRows, said, saidFound, saidMeasured, saidSought, saidWritten, searchRows, worstRows, writeRows}
+use Rattle.answered.specs.Answered.{Answered, Row, baseNamed, fileRows, firstOf, lateRows, lookupRows, nextRows, openRows, said, saidFound, saidMeasured, saidSought, saidWritten, searchRows, worstRows, writeRows}
 use Rattle.promises.specs.Demands.{Upheld}
 use Rattle.promises.specs.Reached.{Reached}
-use Rattle.exported.specs.Exported.{Called, Counts, Errs, ExportedDemand1, ExportedDemand2, ExportedSearch, Points, Promised, Replies, Shows, Tallies, firstDue, wroteAll}
+use Rattle.exported.specs.Exported.{Called, Counts, Errs, ExportedDemand1, ExportedDemand2, ExportedSearch, Points, Promised, Replies, Shows, Tallies, Within, firstDue, wroteAll}
 use Rattle.answered.proofs.Answering.{demand1, needed-is}
-use Rattle.promises.proofs.Keeping.{held-small, keeps, kept-same, kept-twice, loaded-kept}
+use Rattle.promises.proofs.Keeping.{held-small, keeps, kept-same}
 use Rattle.answered.proofs.Outcomes.{next-in-order}
 
 -- ---- demand 1
@@ -121,9 +124,9 @@ eight back (refused r) e = ap (λ (n : ℕ). some (n, place r)) e
 eight back (accepted s) e = absurd (omega arith)
 
 pub exported-demand1 : ExportedDemand1
-unfolding sound clauses allOf stepsGood nextVerdict lateVerdict lookupOutcome foundOf writeVerdict searchOutcome soughtOf worstOutcome measured checked traced wrote answer replying showing telling pointing erring kindOf
+unfolding sound clauses allOf bounded nextVerdict lateVerdict lookupOutcome foundOf writeVerdict searchOutcome soughtOf worstOutcome measured checked traced wrote answer replying showing telling pointing erring kindOf sizeOf
 exported-demand1 = record {
-  opens = λ named l. let g = settingsOf named in replies none (opened g l .0) (openRows g l) l (opened g l .1) (demand1 .opens g l);
+  opens = λ named l. let g = openingOf named in replies none (opened g l .0) (openRows g l) l (opened g l .1) (demand1 .opens g l);
   nexts = λ f l v. let s = stateFrom f in replies f (nextOutcome s l v .0) (nextRows s l) l (nextOutcome s l v .1) (demand1 .nexts s l v);
   lates = λ f l tick v. let s = stateFrom f in replies f (lateOutcome s l tick v .0) (lateRows s l tick v) l (lateOutcome s l tick v .1) (demand1 .lates s l tick v);
   next-tallies = λ f l v. tallies f (f .used) (nextOutcome (stateFrom f) l v .0);
@@ -133,9 +136,12 @@ exported-demand1 = record {
   worsts = λ f l. let s = stateFrom f in errs (worstOutcome s l) (worstRows s l) (demand1 .worsts s l);
   rows = λ f l out. let s = stateFrom f in counts (rowOutcome s l out .0) (writeRows s l (length out) (f .used)) out (rowOutcome s l out .1) (demand1 .rows s l out);
   saves = λ f l out. let s = stateFrom f in counts (saveOutcome s l out .0) (writeRows s l (length out) (recordWidth * f .used)) out (saveOutcome s l out .1) (demand1 .saves s l out);
-  loads = λ named file l. let g = settingsOf named in replies none (loaded g file l .0) (openRows g l ++ fileRows g file) l (loaded g file l .1) (demand1 .loads g file l);
-  places = λ named file l e. let g = settingsOf named in demand1 .places g file l (replying none (answer (loaded g file l .0)) .place) (eight none (loaded g file l .0) e);
+  loads = λ named file l. let g = openingOf named in replies none (loaded g file l .0) (openRows g l ++ fileRows g file) l (loaded g file l .1) (demand1 .loads g file l);
+  places = λ named file l e. let g = openingOf named in demand1 .places g file l (replying none (answer (loaded g file l .0)) .place) (eight none (loaded g file l .0) e);
   kinds = (refl, λ n. refl);
+  sizes = (λ size. refl, λ n size. refl);
+  same-open = λ kind b gaps n l. ap (λ (o : Verdict State × List ℤ). replied none (answered o)) (demand1 .same-open (kindOf kind) b gaps l);
+  same-load = λ kind b gaps n file l. ap (λ (o : Verdict State × List ℤ). replied none (answered o)) (demand1 .same-load (kindOf kind) b gaps file l);
   unsound = λ l. refl;
   unusable = λ l tick last v out bytes. refl;
 }
@@ -228,32 +234,32 @@ writes (Written.Buckets n, l) e z = ap (λ (x : Counted × List ℕ). (Written.B
 
 module _ {named : Named} where
   -- with the state that the caller has, which is one of the fields' own
-  reaches : {rs : List Reading} {f : Fields} {l : List ℤ} → Called named rs f l → Reached (settingsOf named) rs (stateFrom f) l × (fieldsOf (stateFrom f) ≡ f)
+  reaches : {rs : List Reading} {f : Fields} {l : List ℤ} → Called named rs f l → Reached (openingOf named) rs (stateFrom f) l × (fieldsOf (stateFrom f) ≡ f)
   reaches (Called.opens l e z) =
-      let a = accepts none (opened (settingsOf named) l) e z in
+      let a = accepts none (opened (openingOf named) l) e z in
       (Reached.opens l (a .outcome), a .plain)
   reaches (Called.nexts {rs = rs} {f = f} {l = l} {m = m} {r = r} v range c e z) =
       let s : State = stateFrom f in
       let a = accepts f (nextOutcome s l v) e z in
       let k = keeps (reaches c .0) in
       let in-order : late (kindOf (named .kind)) ≡ false = sym (ap (λ (x : Settings). late (x .kind)) (k .named)) ∙ next-in-order s l v (a .outcome) in
-      (subst (λ (tick : ℕ). Reached (settingsOf named) (record { tick = tick; value = v } ∷ rs) (stateFrom (r .state)) m) (k .next in-order) (Reached.nexts v range (reaches c .0) (a .outcome)), a .plain)
+      (subst (λ (tick : ℕ). Reached (openingOf named) (record { tick = tick; value = v } ∷ rs) (stateFrom (r .state)) m) (k .next in-order) (Reached.nexts v range (reaches c .0) (a .outcome)), a .plain)
   reaches (Called.lates {f = f} {l = l} tick v range c e z) =
       let a = accepts f (lateOutcome (stateFrom f) l tick v) e z in
       (Reached.lates tick v range (reaches c .0) (a .outcome), a .plain)
   reaches (Called.next-refused {rs = rs} {f = f} {l = l} {m = m} v c e n) =
       let a = refuses f (nextOutcome (stateFrom f) l v) e n in
-      subst (λ (x : Fields). Reached (settingsOf named) rs (stateFrom x) m × (fieldsOf (stateFrom x) ≡ x)) (sym (a .state)) (Reached.next-refused v (reaches c .0) (a .outcome), reaches c .1)
+      subst (λ (x : Fields). Reached (openingOf named) rs (stateFrom x) m × (fieldsOf (stateFrom x) ≡ x)) (sym (a .state)) (Reached.next-refused v (reaches c .0) (a .outcome), reaches c .1)
   reaches (Called.late-refused {rs = rs} {f = f} {l = l} {m = m} tick v c e n) =
       let a = refuses f (lateOutcome (stateFrom f) l tick v) e n in
-      subst (λ (x : Fields). Reached (settingsOf named) rs (stateFrom x) m × (fieldsOf (stateFrom x) ≡ x)) (sym (a .state)) (Reached.late-refused tick v (reaches c .0) (a .outcome), reaches c .1)
+      subst (λ (x : Fields). Reached (openingOf named) rs (stateFrom x) m × (fieldsOf (stateFrom x) ≡ x)) (sym (a .state)) (Reached.late-refused tick v (reaches c .0) (a .outcome), reaches c .1)
   reaches (Called.open-refused {l = l} other c e n) =
-      (Reached.open-refused (settingsOf other) (reaches c .0) (refuses none (opened (settingsOf other) l) e n .outcome), reaches c .1)
+      (Reached.open-refused (openingOf other) (reaches c .0) (refuses none (opened (openingOf other) l) e n .outcome), reaches c .1)
   reaches (Called.load-refused {l = l} other file c e n) =
-      (Reached.load-refused (settingsOf other) file (reaches c .0) (refuses none (loaded (settingsOf other) file l) e n .outcome), reaches c .1)
+      (Reached.load-refused (openingOf other) file (reaches c .0) (refuses none (loaded (openingOf other) file l) e n .outcome), reaches c .1)
   reaches (Called.loads {f = f} {l = l} {c = q} {written = written} out room other same c saves z e y) =
-      let a = accepts none (loaded (settingsOf other) (take (recordWidth * q .buckets) written) room) e y in
-      (Reached.loads out room (settingsOf other) same (reaches c .0) (writes (saveOutcome (stateFrom f) l out) saves z) (a .outcome), a .plain)
+      let a = accepts none (loaded (openingOf other) (take (recordWidth * q .buckets) written) room) e y in
+      (Reached.loads out room (openingOf other) same (reaches c .0) (writes (saveOutcome (stateFrom f) l out) saves z) (a .outcome), a .plain)
 
 -- ---- what ndz_lookup and ndz_worst show of it
 
@@ -308,7 +314,7 @@ holder tick [] h = absurd (omega arith)
 holder tick (b ∷ t) h =
     by-test (holds tick b) (λ e. (b, List·Memᴰ·head refl, e)) (λ e. let w = holder tick t (omega (arith, rw e at h)) in (w .0, List·Memᴰ·tail (w .1), w .2))
 
-module _ {g : Settings} {rs : List Reading} {s : State} {l : List ℤ} (k : Upheld g rs s l) (first last : ℕ) (bar : ℤ) where
+module _ {g : Opening} {rs : List Reading} {s : State} {l : List ℤ} (k : Upheld g rs s l) (first last : ℕ) (bar : ℤ) where
   none-over : ((b : Bucket) → List·Memᴰ b (tableOf s l) → Over first last bar b → ⊥) → (r : Reading) → List·Memᴰ r rs → first ≤ r .tick → r .tick ≤ last → leZ bar (r .value) ≡ false
   none-over f r m low high =
       by-test (leZ bar (r .value))
@@ -330,6 +336,11 @@ module _ {g : Settings} {rs : List Reading} {s : State} {l : List ℤ} (k : Uphe
 
 -- ---- demands 2 and 3
 
+base-words : (by size : ℕ) → baseNamed (sizeOf by size) ≡ cond (eqb by 0) (2 * size) size
+unfolding baseNamed sizeOf
+base-words zero size = refl
+base-words (suc n) size = rw (ne-eqb (suc n) 0 (λ e. omega arith))
+
 pub promises : {named : Named} {rs : List Reading} {f : Fields} {l : List ℤ} → Called named rs f l → Promised named rs f l
 unfolding showing replying answer
 promises {named} {rs} {f} {l} c =
@@ -337,33 +348,38 @@ promises {named} {rs} {f} {l} c =
     let k = keeps (reaches c .0) in
     let t : Table = tableOf (stateFrom f) l in
     let facts = sound-facts (stateFrom f) l (k .fit) in
+    let named-steps : named .by ≡ 0 → baseNamed (sizeOf (named .by) (named .size)) ≡ 2 * named .size = λ by. base-words (named .by) (named .size) ∙ rw by in
+    let pictured : (c : Curve) (E : ℕ) → curve.steps c ≤ (baseNamed (sizeOf (named .by) (named .size)) + 1) / 2 → Near E c rs → (r : Reading) → List·Memᴰ r rs → Within E f l r =
+    λ c E few near r m.
+    let p = k .picture c E few near in
+    let seen = p .0 r m in
+    record {
+      shown = ap (λ (x : Found). showing x .refusal) (seen .answer);
+      near = subst (λ (x : Found). distance (r .value) (showing x .level) ≤ E) (sym (seen .answer)) (seen .near);
+      error = omega (arith, shown-error f l (r .tick), p .1);
+    } in
     record {
       keeps = k;
       plain = plain;
       kind-named = sym (ap (λ (x : Fields). x .kind) plain) ∙ ap (λ (x : Settings). numberOf (x .kind)) (k .named);
-      steps-named = ap (λ (x : Settings). x .steps) (k .named);
+      base-named = k .base-named ∙ base-words (named .by) (named .size);
       gaps-named = k .gaps-named;
       size = k .size;
+      size-of-steps = λ by. omega (arith, k .size, named-steps by);
       runs = k .runs;
       readings = k .readings;
       row = λ out long. wrote-all (λ t. t) (f .used) f l out (length-slots l 0 (f .used)) (k .fit) long ∙ ap (λ (x : Table). (wroteAll (f .used), x ++ drop (f .used) out)) (k .buckets);
       save = λ out long. wrote-all saved (recordWidth * f .used) f l out (length-saved t ∙ ap (λ (n : ℕ). recordWidth * n) (length-slots l 0 (f .used))) (k .fit) long ∙ ap (λ (x : Table). (wroteAll (f .used), saved x ++ drop (recordWidth * f .used) out)) (k .buckets);
       load = λ other room same long.
-          let h : Settings = settingsOf other in
+          let h : Opening = openingOf other in
           let bytes : List ℕ = saved t in
           ap (λ (x : Table). replying none (answer (loaded h (saved x) room .0))) (sym (k .buckets))
-          ∙ ap (λ (x : Verdict State × List ℤ). replying none (answer (x .0))) (loaded-kept (stateFrom f .settings) h bytes room (kept-same h (settingsOf named) same ∙ sym (kept-twice (settingsOf named)) ∙ ap kept (sym (k .named))) ∙ saved-loaded (stateFrom f) l room (k .fit) (subst (λ (x : Settings). slotWidth * needed x ≤ length room) (sym (k .named)) (subst (λ (n : ℕ). slotWidth * n ≤ length room) (sym (needed-is (settingsOf named))) long)))
+          ∙ ap (λ (x : Verdict State × List ℤ). replying none (answer (x .0))) (saved-loaded h (stateFrom f) l room (kept-same h (openingOf named) same ∙ sym (k .named)) (k .fit) (subst (λ (x : Settings). slotWidth * needed x ≤ length room) (sym (k .named)) (subst (λ (n : ℕ). slotWidth * n ≤ length room) (sym (needed-is (openingOf named))) long)))
           ∙ ap (λ (x : Fields). record { refusal = 0; place = 0; state = x }) plain;
-      picture = λ curve E few near r m.
-          let p = k .picture curve E few near in
-          let seen = p .0 r m in
-          record {
-            shown = ap (λ (x : Found). showing x .refusal) (seen .answer);
-            near = subst (λ (x : Found). distance (r .value) (showing x .level) ≤ E) (sym (seen .answer)) (seen .near);
-            error = omega (arith, shown-error f l (r .tick), p .1);
-          };
+      picture = λ c E few near. pictured c E (omega (arith, k .base-named)) near;
+      picture-of-steps = λ by c E few near. pictured c E (omega (arith, named-steps by)) near;
       worst-told = worst-of f l (k .fit) ∙ ap (λ (x : Table). record { refusal = 0; place = 0; error = worst x }) (k .buckets);
-      worst-within = λ curve E few near. subst (λ (x : Table). worst x ≤ E) (k .buckets) (k .picture curve E few near .1);
+      worst-within = λ c E few near. subst (λ (x : Table). worst x ≤ E) (k .buckets) (k .picture c E (omega (arith, k .base-named)) near .1);
       lookups = λ tick b m h. ap showing (k .lookups tick b (subst (List·Memᴰ b) (sym (k .buckets)) m) h);
       searches = λ first last bar h g. ap pointing (searching.searches .as-all (stateFrom f) l first last bar (k .fit) h g ∙ ap (λ (x : Table). answerOf (allOver first last bar 0 x)) (k .buckets));
       none-over = λ first last bar z e. none-over k first last bar (exported-search .misses f l first last bar z e);
@@ -378,7 +394,7 @@ pub exported-demand2 : ExportedDemand2
 unfolding telling
 exported-demand2 = record {
   same-bytes = λ named file out l known long z.
-      let h : Settings = settingsOf named in
+      let h : Opening = openingOf named in
       let a = accepts none (loaded h file l) {r = replying none (answer (loaded h file l .0))} {m = loaded h file l .1} refl z in
       ap told (loaded-saved h file l (stateFrom (replying none (answer (loaded h file l .0)) .state)) out known (ap (λ (x : Verdict State × List ℤ). x .0) (a .outcome)) long);
 }

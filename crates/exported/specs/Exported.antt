@@ -4,12 +4,13 @@ use mathlib.Core.Path.{_≡_}
 use mathlib.Core.Logic.{_≢_}
 use mathlib.Core.Bool.{true, false, cond}
 use mathlib.Core.List.{List, [], _∷_, _++_, List·Memᴰ}
-use lib.Dec.{leb}
+use lib.Dec.{eqb, leb}
 use lib.IntN.{ℤ, pos}
 use lib.ListN.{drop, length, take}
 use lib.Signed.{leZ}
 use Rattle.rule.specs.declared.Bucket.{Bucket}
 use Rattle.rule.specs.declared.Kind.the-variants.{InOrder, Late}
+use Rattle.rule.specs.declared.Size.the-variants.{Steps, Base}
 use Rattle.rule.specs.declared.Tally.{Tally}
 use Rattle.rule.specs.Bucket.{distance, error, level}
 use Rattle.rule.specs.Bytes.{saved}
@@ -30,9 +31,9 @@ use Rattle.plain.specs.declared.Hit.{Hit}
 use Rattle.plain.specs.declared.Reply.{Reply}
 use Rattle.plain.specs.declared.Shown.{Shown}
 use Rattle.plain.specs.declared.WorstError.{WorstError}
-use Rattle.fields.specs.States.{fieldsOf, kindOf, none, numberOf, settingsOf, stateFrom}
+use Rattle.fields.specs.States.{fieldsOf, kindOf, none, numberOf, openingOf, sizeOf, stateFrom}
 use Rattle.plain.specs.Plain.{lateReply, lateTally, loadReply, lookupReply, nextReply, nextTally, openReply, pointing, rowReply, saveReply, searchReply, worstReply}
-use Rattle.answered.specs.Answered.{Row, fileRows, lateRows, lookupRows, mostSteps, nextRows, openRows, searchRows, slotsNeeded, worstRows, writeRows}
+use Rattle.answered.specs.Answered.{Row, fileRows, lateRows, lookupRows, mostSteps, namedBy, nextRows, openRows, searchRows, slotsNeeded, worstRows, writeRows}
 use Rattle.promises.specs.Demands.{Upheld}
 use Rattle.promises.specs.Reached.{SameSettings}
 
@@ -75,7 +76,7 @@ pub record Tallies (used : ℕ) (r : Reply) (before after : Tally) : Type 0 wher
 
 -- of each function, for any numbers and bytes: open and load hand back zeros where they are refused, the two readings the state that was given
 pub record ExportedDemand1 : Type 0 where
-  pub opens : (named : Named) (l : List ℤ) → let o = openReply named l in Replies (openRows (settingsOf named) l) none l (o .1) (o .0)
+  pub opens : (named : Named) (l : List ℤ) → let o = openReply named l in Replies (openRows (openingOf named) l) none l (o .1) (o .0)
   pub nexts : (f : Fields) (l : List ℤ) (v : ℤ) → let o = nextReply f l v in Replies (nextRows (stateFrom f) l) f l (o .1) (o .0)
   pub lates : (f : Fields) (l : List ℤ) (tick : ℕ) (v : ℤ) → let o = lateReply f l tick v in Replies (lateRows (stateFrom f) l tick v) f l (o .1) (o .0)
   -- the tallied readings reply and leave the room as these two do, and leave the tally so
@@ -89,11 +90,16 @@ pub record ExportedDemand1 : Type 0 where
   -- sixteen bytes a bucket
   pub saves : (f : Fields) (l : List ℤ) (out : List ℕ) → let o = saveReply f l out in Counts (writeRows (stateFrom f) l (length out) (16 * f .used)) out (o .1) (o .0)
   pub loads : (named : Named) (file : List ℕ) (l : List ℤ) → let o = loadReply named file l in
-      Replies (openRows (settingsOf named) l ++ fileRows (settingsOf named) file) none l (o .1) (o .0)
+      Replies (openRows (openingOf named) l ++ fileRows (openingOf named) file) none l (o .1) (o .0)
   -- 8: the record at its place is the file's, it breaks a rule, and all before it meet them
   pub places : (named : Named) (file : List ℕ) (l : List ℤ) → let r = loadReply named file l .0 in r .refusal ≡ 8 → FirstBroken (kindOf (named .kind)) file (r .place)
-  -- kind 0 is in order, any other late
+  -- kind 0 is in order, any other late; by 0 the size is B, by any other number C
   pub kinds : (kindOf 0 ≡ InOrder) × ((n : ℕ) → kindOf (suc n) ≡ Late)
+  pub sizes : ((size : ℕ) → sizeOf 0 size ≡ Steps size) × ((n size : ℕ) → sizeOf (suc n) size ≡ Base size)
+  -- B is C = 2B: whoever names either gets the same answer, and the same is left, refused or not
+  pub same-open : (kind b gaps n : ℕ) (l : List ℤ) → openReply (record { kind = kind; size = b; gaps = gaps; by = 0 }) l ≡ openReply (record { kind = kind; size = 2 * b; gaps = gaps; by = suc n }) l
+  pub same-load : (kind b gaps n : ℕ) (file : List ℕ) (l : List ℤ)
+      → loadReply (record { kind = kind; size = b; gaps = gaps; by = 0 }) file l ≡ loadReply (record { kind = kind; size = 2 * b; gaps = gaps; by = suc n }) file l
   -- the zeros that a refused open or load hands back are sound in no room, so no call accepts them
   pub unsound : (l : List ℤ) → sound (stateFrom none) l ≡ false
   pub unusable : (l : List ℤ) (tick last : ℕ) (v : ℤ) (out : List Bucket) (bytes : List ℕ)
@@ -131,9 +137,9 @@ pub data Called (named : Named) : List Reading → Fields → List ℤ → Type 
   -- a refused open or load, by any settings and bytes, lent the room that holds the trace: the caller goes on with the state of before
   open-refused : {rs : List Reading} {f : Fields} {l m : List ℤ} {r : Reply} (other : Named) → Called named rs f l → openReply other l ≡ (r, m) → r .refusal ≢ 0 → Called named rs f m
   load-refused : {rs : List Reading} {f : Fields} {l m : List ℤ} {r : Reply} (other : Named) (file : List ℕ) → Called named rs f l → loadReply other file l ≡ (r, m) → r .refusal ≢ 0 → Called named rs f m
-  -- saved into any output, and the bytes that were written loaded into any room by the same settings: late any kind but 0 is the same, and in order any gaps
+  -- saved into any output, and the bytes that were written loaded into any room by the same settings: late any kind but 0 is the same, the base limit by B or by C, and in order any gaps
   loads : {rs : List Reading} {f : Fields} {l m : List ℤ} {c : Counted} {written : List ℕ} {r : Reply} (out : List ℕ) (room : List ℤ) (other : Named)
-      → SameSettings (settingsOf other) (settingsOf named) → Called named rs f l → saveReply f l out ≡ (c, written) → c .refusal ≡ 0
+      → SameSettings (openingOf other) (openingOf named) → Called named rs f l → saveReply f l out ≡ (c, written) → c .refusal ≡ 0
       → loadReply other (take (16 * c .buckets) written) room ≡ (r, m) → r .refusal ≡ 0 → Called named rs (r .state) m
 
 -- ndz_lookup at the reading's tick is not refused: its level is within E of the reading, and its error is at most E
@@ -144,7 +150,7 @@ pub record Within (E : ℕ) (f : Fields) (l : List ℤ) (r : Reading) : Type 0 w
 
 -- the buckets of the rule applied to the accepted readings
 abbrev pub bucketsOf : Named → List Reading → Table
-bucketsOf named rs = tableAfter (kept (settingsOf named)) rs
+bucketsOf named rs = tableAfter (kept (openingOf named)) rs
 
 -- not refused: so many buckets were written
 abbrev pub wroteAll : ℕ → Counted
@@ -153,28 +159,31 @@ wroteAll n = record { refusal = 0; place = 0; buckets = n }
 -- of a trace opened with the settings named
 pub record Promised (named : Named) (rs : List Reading) (f : Fields) (l : List ℤ) : Type 0 where
   -- demands 2 and 3, as the calls keep them, of the state with these fields
-  pub keeps : Upheld (settingsOf named) rs (stateFrom f) l
+  pub keeps : Upheld (openingOf named) rs (stateFrom f) l
   -- the fields are that state's, and say nothing else
   pub plain : fieldsOf (stateFrom f) ≡ f
   -- the settings named at the opening: a late kind is 1, and in order K is kept as 0
   pub kind-named : f .kind ≡ numberOf (kindOf (named .kind))
-  pub steps-named : f .steps ≡ named .steps
+  pub base-named : f .base ≡ cond (eqb (named .by) 0) (2 * named .size) (named .size)
   pub gaps-named : f .gaps ≡ cond (late (kindOf (named .kind))) (named .gaps) 0
-  -- at most 2B steps, late one more for each unbroken run
-  pub size : f .used ≤ mostSteps (settingsOf named) (runsOf rs)
+  -- at most C steps, late one more for each unbroken run; 2B where B was named
+  pub size : f .used ≤ mostSteps (namedBy (openingOf named)) (runsOf rs)
+  pub size-of-steps : named .by ≡ 0 → f .used ≤ 2 * named .size + cond (late (kindOf (named .kind))) (runsOf rs) 0
   pub runs : f .runs ≡ runsOf rs
   pub readings : f .readings ≡ length rs
   -- demand 2: ndz_row and ndz_save write the buckets of the rule, where the output is long enough, and nothing behind them
   pub row : (out : List Bucket) → f .used ≤ length out → rowReply f l out ≡ (wroteAll (f .used), bucketsOf named rs ++ drop (f .used) out)
   pub save : (out : List ℕ) → 16 * f .used ≤ length out → saveReply f l out ≡ (wroteAll (f .used), saved (bucketsOf named rs) ++ drop (16 * f .used) out)
   -- and ndz_load of these bytes by the same settings, into any room that is long enough, hands back the same state
-  pub load : (other : Named) (room : List ℤ) → SameSettings (settingsOf other) (settingsOf named) → 4 * slotsNeeded (settingsOf named) ≤ length room
+  pub load : (other : Named) (room : List ℤ) → SameSettings (openingOf other) (openingOf named) → 4 * slotsNeeded (namedBy (openingOf named)) ≤ length room
       → loadReply other (saved (bucketsOf named rs)) room .0 ≡ record { refusal = 0; place = 0; state = f }
-  -- demand 3: against every curve of at most as many flat steps as named, by ndz_lookup itself
-  pub picture : (c : Curve) (E : ℕ) → curve.steps c ≤ named .steps → Near E c rs → (r : Reading) → List·Memᴰ r rs → Within E f l r
+  -- demand 3: against every curve of at most (C + 1) / 2 flat steps, rounded down, by ndz_lookup itself
+  pub picture : (c : Curve) (E : ℕ) → curve.steps c ≤ (f .base + 1) / 2 → Near E c rs → (r : Reading) → List·Memᴰ r rs → Within E f l r
+  -- where B was named, document 01's own sentence: against every curve of at most B flat steps
+  pub picture-of-steps : named .by ≡ 0 → (c : Curve) (E : ℕ) → curve.steps c ≤ named .size → Near E c rs → (r : Reading) → List·Memᴰ r rs → Within E f l r
   -- and by ndz_worst, which tells the greatest error of the buckets of the rule
   pub worst-told : worstReply f l ≡ record { refusal = 0; place = 0; error = worst (bucketsOf named rs) }
-  pub worst-within : (c : Curve) (E : ℕ) → curve.steps c ≤ named .steps → Near E c rs → worst (bucketsOf named rs) ≤ E
+  pub worst-within : (c : Curve) (E : ℕ) → curve.steps c ≤ (f .base + 1) / 2 → Near E c rs → worst (bucketsOf named rs) ≤ E
   -- ndz_lookup shows, at each tick, the level, error, least and largest of the bucket that holds it
   pub lookups : (tick : ℕ) (b : Bucket) → List·Memᴰ b (bucketsOf named rs) → holds tick b ≡ true
       → lookupReply f l tick ≡ record { refusal = 0; place = 0; level = level b; error = error b; least = b .least; largest = b .largest }

@@ -6,7 +6,7 @@ ghost use lib.ListN.{length};
 ghost use Rattle.rule.specs.Numbers.{recordWidth, ticks};
 ghost use Rattle.rule.specs.Bytes.{recordsOf};
 ghost use Rattle.rule.specs.Calls.{fileVerdict};
-ghost use Rattle.rule.specs.Room.{gapsGood, stepsGood};
+ghost use Rattle.rule.specs.Room.{baseGood, gapsGood};
 ghost use Rattle.rule.specs.Rules.{firstFault, placeOr};
 ghost use Rattle.rule.specs.Table.{readings, runs};
 ghost use Rattle.faults.specs.Verdicts.{inspection};
@@ -84,7 +84,7 @@ pub fn counts(file: &[u8]) -> Contents
 
 // Refusals 7, 8, 9 and 10: all that a file can be refused for is known before a slot is written.
 pub fn inspect(s: Settings, file: &[u8]) -> Inspected
-    requires { ⌜ (stepsGood s ≡ true) × (gapsGood (s .kind) (s .gaps) ≡ true) ⌝ }
+    requires { ⌜ (baseGood (s .base) ≡ true) × (gapsGood (s .kind) (s .gaps) ≡ true) ⌝ }
     ensures { λ r. ⌜ r ≡ inspection (fileVerdict s (now (file .entry))) ⌝ }
 {
     if file.len() % RECORD != 0 {

@@ -2,7 +2,9 @@
 use Prim.Native.Nat.{ℕ, zero, suc}
 use Rattle.rule.specs.declared.Kind.{Kind}
 use Rattle.rule.specs.declared.Kind.the-variants.{InOrder, Late}
-use Rattle.rule.specs.declared.Settings.{Settings}
+use Rattle.rule.specs.declared.Opening.{Opening}
+use Rattle.rule.specs.declared.Size.{Size}
+use Rattle.rule.specs.declared.Size.the-variants.{Steps, Base}
 use Rattle.rule.specs.declared.State.{State}
 use Rattle.fields.specs.declared.Named.{Named}
 use Rattle.fields.specs.declared.Fields.{Fields}
@@ -16,15 +18,20 @@ unfoldable pub numberOf : Kind → ℕ
 numberOf InOrder = 0
 numberOf Late = 1
 
-abbrev pub settingsOf : Named → Settings
-settingsOf named = record { kind = kindOf (named .kind); steps = named .steps; gaps = named .gaps }
+-- by 0 the size is B, by any other number C
+unfoldable pub sizeOf : ℕ → ℕ → Size
+sizeOf zero size = Steps size
+sizeOf (suc n) size = Base size
+
+abbrev pub openingOf : Named → Opening
+openingOf named = record { kind = kindOf (named .kind); size = sizeOf (named .by) (named .size); gaps = named .gaps }
 
 abbrev pub stateFrom : Fields → State
-stateFrom f = record { settings = settingsOf (record { kind = f .kind; steps = f .steps; gaps = f .gaps }); used = f .used; runs = f .runs; readings = f .readings }
+stateFrom f = record { settings = record { kind = kindOf (f .kind); base = f .base; gaps = f .gaps }; used = f .used; runs = f .runs; readings = f .readings }
 
 abbrev pub fieldsOf : State → Fields
-fieldsOf s = record { kind = numberOf (s .settings .kind); steps = s .settings .steps; gaps = s .settings .gaps; used = s .used; runs = s .runs; readings = s .readings }
+fieldsOf s = record { kind = numberOf (s .settings .kind); base = s .settings .base; gaps = s .settings .gaps; used = s .used; runs = s .runs; readings = s .readings }
 
 -- the state that a refused open or load answers: no call accepts it
 abbrev pub none : Fields
-none = record { kind = 0; steps = 0; gaps = 0; used = 0; runs = 0; readings = 0 }
+none = record { kind = 0; base = 0; gaps = 0; used = 0; runs = 0; readings = 0 }

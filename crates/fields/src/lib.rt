@@ -1,24 +1,27 @@
 // The state and what a trace is opened with as plain fields for other languages, and back.
 ghost use mathlib.Core.Path.{_≡_};
-ghost use Rattle.fields.specs.States.{fieldsOf, kindOf, none, numberOf, settingsOf, stateFrom};
+ghost use Rattle.fields.specs.States.{fieldsOf, kindOf, none, numberOf, openingOf, sizeOf, stateFrom};
 use rule::Kind;
+use rule::Opening;
 use rule::Settings;
+use rule::Size;
 use rule::State;
 use trace::Trace;
 
-// What a trace is opened or loaded with: its kind is 0 in order and any other number late; B and K.
+// What a trace is opened or loaded with: its kind is 0 in order and any other number late; its size is B where `by` is 0, and C where it is any other number; and K.
 #[repr(C)]
 pub struct Named {
     pub kind: usize,
-    pub steps: usize,
+    pub size: usize,
     pub gaps: usize,
+    pub by: usize,
 }
 
-// A state: its kind is 0 in order and any other number late; B, K, slots in use, runs, readings.
+// A state: its kind is 0 in order and any other number late; C, K, slots in use, runs, readings.
 #[repr(C)]
 pub struct Fields {
     pub kind: usize,
-    pub steps: usize,
+    pub base: usize,
     pub gaps: usize,
     pub used: usize,
     pub runs: usize,
@@ -44,13 +47,24 @@ fn number_of(kind: Kind) -> usize
     }
 }
 
-pub fn settings_of(named: Named) -> Settings
-    ensures { λ r. ⌜ r ≡ settingsOf named ⌝ }
+fn size_of(by: usize, size: usize) -> Size
+    ensures { λ r. ⌜ r ≡ sizeOf by size ⌝ }
+{
+    if by == 0 {
+        Size::Steps(size)
+    } else {
+        Size::Base(size)
+    }
+}
+
+pub fn opening_of(named: Named) -> Opening
+    ensures { λ r. ⌜ r ≡ openingOf named ⌝ }
 {
     let kind = kind_of(named.kind);
-    Settings {
+    let size = size_of(named.by, named.size);
+    Opening {
         kind,
-        steps: named.steps,
+        size,
         gaps: named.gaps,
     }
 }
@@ -58,14 +72,14 @@ pub fn settings_of(named: Named) -> Settings
 pub fn trace_of(f: Fields) -> Trace
     ensures { λ r. ⌜ r .state ≡ stateFrom f ⌝ }
 {
-    let settings = settings_of(Named {
-        kind: f.kind,
-        steps: f.steps,
-        gaps: f.gaps,
-    });
+    let kind = kind_of(f.kind);
     Trace {
         state: State {
-            settings,
+            settings: Settings {
+                kind,
+                base: f.base,
+                gaps: f.gaps,
+            },
             used: f.used,
             runs: f.runs,
             readings: f.readings,
@@ -80,7 +94,7 @@ pub fn fields_of(s: State) -> Fields
     let kind = settings.kind;
     Fields {
         kind: number_of(kind),
-        steps: settings.steps,
+        base: settings.base,
         gaps: settings.gaps,
         used: s.used,
         runs: s.runs,
@@ -94,7 +108,7 @@ pub fn none() -> Fields
 {
     Fields {
         kind: 0,
-        steps: 0,
+        base: 0,
         gaps: 0,
         used: 0,
         runs: 0,

@@ -221,7 +221,7 @@ upright-showable (Refused r) l g n out up e = omega (arith, e, output-room)
 upright-showable (Accepted t) l g n out up e =
     let s : State = t .state in
     let f = sound-facts s l (up .whole) in
-    record { whole = up .whole; room = omega (arith, e, output-room, used-needed s l f, needed-small (s .settings) (f .steps-good) (f .gaps-good)) }
+    record { whole = up .whole; room = omega (arith, e, output-room, used-needed s l f, needed-small (s .settings) (f .base-good) (f .gaps-good)) }
 
 pub whole-showable : (input out : List ℕ) → length out ≡ outputRoom → let e = atEnd (fed start input) in Showable (e .0 .last) (e .1) out
 unfolding begun

@@ -7,7 +7,7 @@ use native.Mathlib.Omega.{arith}
 use lib.IntN.{ℤ}
 use mir.Syntax.{w32}
 use mir.Val.{SFits}
-use Rattle.rule.specs.declared.Settings.{Settings}
+use Rattle.rule.specs.declared.Opening.{Opening}
 use Rattle.rule.specs.declared.State.{State}
 use Rattle.rule.specs.Calls.{Verdict, accepted, kept, late, opened, refused, traced}
 use Rattle.rule.specs.Numbers.{ticks, word}
@@ -59,10 +59,10 @@ few-lines {s} {l} {g} {n} x =
     let facts = sound-facts s l (x .whole) in
     omega (arith, x .few, most-lines g (s .readings), facts .true-readings, sound-readings s l facts)
 
-pub opened-upright : (s : Settings) (l : List ℤ) (g : Stage) (n : ℕ) → n ≤ mostLines g 0 → Left (opened s l) g n
+pub opened-upright : (o : Opening) (l : List ℤ) (g : Stage) (n : ℕ) → n ≤ mostLines g 0 → Left (opened o l) g n
 unfolding traced answer Upright LeftBy readings
-opened-upright s l g n h =
-    open-either s l (λ v. LeavesSound (traced (kept s) l v) → Left (traced (kept s) l v) g n) (λ r _. tt) (λ _ whole. record { whole = whole; few = h }) (open-leaves s l)
+opened-upright o l g n h =
+    open-either o l (λ v. LeavesSound (traced (kept o) l v) → Left (traced (kept o) l v) g n) (λ r _. tt) (λ _ whole. record { whole = whole; few = h }) (open-leaves o l)
 
 module _ (s : State) (l : List ℤ) (g : Stage) (n : ℕ) (x : Stood s l g n) where
   abbrev Goes : Verdict Table → Type 0

@@ -37,6 +37,7 @@ outputs =
     ∷ ("late 1\n0 -5\n", "0 1 -5 -5 -5\ntotal 1 1 0\n")
     ∷ ("steps 1\n-3\n0\n9\n", "0 2 -3 0 -2\n2 1 9 9 9\ntotal 3 2 2\n")
     ∷ ("steps 257\n", "refused 1 1\n")
+    ∷ ("steps 300\n", "refused 1 1\n")
     ∷ ("steps 256\nlate 256\n", "total 0 0 0\n")
     ∷ []
 

@@ -9,9 +9,7 @@ use lib.ListN.{length, set, take}
 use Rattle.rule.specs.declared.Refusal.{Refusal}
 use Rattle.rule.specs.declared.State.{State}
 use Rattle.rule.specs.Calls.{opened}
-use Rattle.rule.specs.Numbers.{most}
 use Rattle.rule.specs.Room.{sound}
-use Rattle.rule.specs.Table.{needed}
 use Rattle.trace.specs.declared.Answer.{Answer}
 use Rattle.trace.specs.declared.Answer.the-variants.{Accepted, Refused}
 use Rattle.trace.specs.Answers.{answered}
@@ -20,7 +18,7 @@ use Rattle.notation.specs.Signs.{lineFeed}
 use Rattle.notation.specs.Reading.{lineOf}
 use Rattle.listing.specs.declared.Feeding.{Feeding}
 use Rattle.listing.specs.declared.Stage.{Stage}
-use Rattle.listing.specs.Listing.{defaultSteps, inOrder, lateWith, obeyed, stageAfter}
+use Rattle.listing.specs.Listing.{defaultSteps, inOrder, mostSlots, obeyed, stageAfter}
 
 -- nothing read yet
 abbrev pub fresh : List ℤ → Feeding × List ℤ
@@ -84,7 +82,7 @@ pub record Listable (s : State) (l : List ℤ) (out : List ℕ) : Type 0 where
 
 -- the bytes of an output that every listing fits
 abbrev pub outputRoom : ℕ
-outputRoom = lineRoom * needed (lateWith most most)
+outputRoom = lineRoom * mostSlots
 
 -- what was read can be shown there
 unfoldable pub Showable : Answer → List ℤ → List ℕ → Type 0

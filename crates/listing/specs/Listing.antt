@@ -5,12 +5,13 @@ use mathlib.Core.List.{List, [], _∷_}
 use lib.Dec.{eqb}
 use lib.IntN.{ℤ}
 use Rattle.rule.specs.declared.Refusal.{Refusal}
-use Rattle.rule.specs.declared.Settings.{Settings}
+use Rattle.rule.specs.declared.Opening.{Opening}
+use Rattle.rule.specs.declared.Size.the-variants.{Steps, Base}
 use Rattle.rule.specs.declared.State.{State}
 use Rattle.rule.specs.declared.Kind.the-variants.{InOrder, Late}
 use Rattle.rule.specs.Answers.{number}
 use Rattle.rule.specs.Calls.{late, lateOutcome, nextOutcome, opened}
-use Rattle.rule.specs.Numbers.{most, slotWidth}
+use Rattle.rule.specs.Numbers.{most, mostBase, slotWidth}
 use Rattle.rule.specs.Room.{tableOf, zeros}
 use Rattle.rule.specs.Table.{needed}
 use Rattle.trace.specs.declared.Answer.{Answer}
@@ -40,15 +41,19 @@ lines (b ∷ l) = cond (eqb b lineFeed) ([] ∷ lines l) (begins b (lines l))
 abbrev pub defaultSteps : ℕ
 defaultSteps = 32
 
-abbrev pub inOrder : ℕ → Settings
-inOrder b = record { kind = InOrder; steps = b; gaps = 0 }
+abbrev pub inOrder : ℕ → Opening
+inOrder b = record { kind = InOrder; size = Steps b; gaps = 0 }
 
-abbrev pub lateWith : ℕ → ℕ → Settings
-lateWith b k = record { kind = Late; steps = b; gaps = k }
+-- with the base limit that the state keeps
+abbrev pub lateWith : ℕ → ℕ → Opening
+lateWith c k = record { kind = Late; size = Base c; gaps = k }
 
--- the numbers of a room for every B and K
+-- the slots of a room for every C and K, and its numbers
+abbrev pub mostSlots : ℕ
+mostSlots = needed (record { kind = Late; base = mostBase; gaps = most })
+
 abbrev pub roomSize : ℕ
-roomSize = slotWidth * needed (lateWith most most)
+roomSize = slotWidth * mostSlots
 
 -- `steps B` may come first
 abbrev pub stepsMay : Stage → Bool
@@ -78,7 +83,7 @@ unreadable l = (Refused Refusal.Line, l)
 -- a header opens the trace anew, a reading goes to it
 unfoldable pub obeyed : Stage → State → List ℤ → Line → Answer × List ℤ
 obeyed g s l (Line.Steps b) = cond (stepsMay g) (answered (opened (inOrder b) l)) (unreadable l)
-obeyed g s l (Line.Late k) = cond (lateMay g) (answered (opened (lateWith (s .settings .steps) k) l)) (unreadable l)
+obeyed g s l (Line.Late k) = cond (lateMay g) (answered (opened (lateWith (s .settings .base) k) l)) (unreadable l)
 obeyed g s l (Line.Alone v) = cond (late (s .settings .kind)) (unreadable l) (answered (nextOutcome s l v))
 obeyed g s l (Line.Pair tick v) = cond (late (s .settings .kind)) (answered (lateOutcome s l tick v)) (unreadable l)
 obeyed g s l Line.Unreadable = unreadable l

@@ -5,6 +5,7 @@ use mathlib.Core.List.{List, [], _∷_, _++_}
 use lib.IntN.{ℤ}
 use lib.ListN.{length, replicate}
 use Rattle.rule.specs.declared.Kind.the-variants.{InOrder}
+use Rattle.rule.specs.declared.Size.the-variants.{Steps}
 use Rattle.rule.specs.Calls.{opened}
 use Rattle.rule.specs.Room.{zeros}
 use Rattle.trace.specs.Answers.{answered}
@@ -37,7 +38,7 @@ written x = let e = atEnd x in shown (e .0 .last) (e .0 .lines) (e .1)
 
 pub record Lists : Type 0 where
   -- without a header B is 32, and a line has at most 64 bytes
-  pub default : (l : List ℤ) → let o = answered (opened (record { kind = InOrder; steps = 32; gaps = 0 }) l) in begun l ≡ record { last = o .0; room = o .1; stage = Stage.Nothing; count = 0 }
+  pub default : (l : List ℤ) → let o = answered (opened (record { kind = InOrder; size = Steps 32; gaps = 0 }) l) in begun l ≡ record { last = o .0; room = o .1; stage = Stage.Nothing; count = 0 }
   pub longest : lineMost ≡ 64
   -- what is shown is the listing of the input
   pub listed : (pieces : List (List ℕ)) → written (fedAll start pieces) ≡ output (joined pieces)

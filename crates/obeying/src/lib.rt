@@ -6,8 +6,9 @@ ghost use Rattle.trace.specs.Answers.{answered};
 ghost use Rattle.listing.specs.Listing.{lateMay, obeyed, stepsMay, unreadable};
 use listing::Stage;
 use notation::Line;
+use rule::Opening;
 use rule::Refusal;
-use rule::Settings;
+use rule::Size;
 use trace::Answer;
 use trace::Trace;
 
@@ -34,7 +35,7 @@ fn late_may(g: Stage) -> bool
 }
 
 // A header opens the trace anew, where it may stand.
-fn header(may: bool, named: Settings, room: &mut [i64]) -> Answer
+fn header(may: bool, named: Opening, room: &mut [i64]) -> Answer
     ensures { λ r. ⌜ (r, now (room .exit)) ≡ cond may (answered (opened named (now (room .entry)))) (unreadable (now (room .entry))) ⌝ }
 {
     if may {
@@ -59,10 +60,14 @@ pub fn obey(g: Stage, t: Trace, room: &mut [i64], l: Line) -> Answer
 {
     let late = is_late(t);
     match l {
-        Line::Steps(b) => header(steps_may(g), settings::in_order(b as usize), room),
+        Line::Steps(b) => header(
+            steps_may(g),
+            openings::in_order(Size::Steps(b as usize)),
+            room,
+        ),
         Line::Late(k) => header(
             late_may(g),
-            settings::late(t.state.settings.steps, k as usize),
+            openings::late(Size::Base(t.state.settings.base), k as usize),
             room,
         ),
         Line::Alone(v) => {

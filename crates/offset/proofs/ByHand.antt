@@ -13,9 +13,9 @@ use native.Mathlib.Omega.{arith}
 use Rattle.rule.specs.Bucket.{distance, larger, lesser, middle}
 use Rattle.rule.specs.Table.{accept, cheaper, cheapest, choice, holding, holds, insert, lastEnd, limitOver, merge, mergeAt, mergeOf, readings, runs, runsAfter, settle, settleIn, worst}
 use Rattle.rule.specs.Rules.{broken, equal, faultAt, firstFalse, firstFault, follows, isWhole, placeOr, ruled, rules}
-use Rattle.rule.specs.Room.{allOf, allZero, clauses, flat, gapsBounded, gapsGood, laid, ranged, restZero, roomy, runsAllowed, slot, slotRanged, slots, sound, stepsGood, within, zeros}
+use Rattle.rule.specs.Room.{allOf, allZero, bounded, clauses, flat, gapsGood, laid, ranged, restZero, roomy, runsAllowed, slot, slotRanged, slots, sound, within, zeros}
 use Rattle.rule.specs.Bytes.{bits, bytes, reading, recordAt, records, recordsOf, saved, savedRecord, wordAt}
-use Rattle.rule.specs.Calls.{admitted, checked, counted, fileVerdict, found, foundOf, gapsKept, grown, isHeld, late, lateVerdict, lookupOutcome, measured, nextVerdict, onward, traced, worstOutcome, writeVerdict, wrote}
+use Rattle.rule.specs.Calls.{admitted, baseOf, checked, counted, fileVerdict, found, foundOf, gapsKept, grown, isHeld, late, lateVerdict, lookupOutcome, measured, nextVerdict, onward, sizeGood, traced, worstOutcome, writeVerdict, wrote}
 use Rattle.over.specs.Search.{firstOver, over, searchOutcome, sought, soughtOf, touches}
 use Rattle.offset.specs.Caller.{after, answer, answers, begun, kept, left, part}
 use Rattle.offset.specs.Offset.{FileMoved, FilesMoved, each, lates-too, loads-too, lookups-too, nexts-too, none, opens-too, rows-too, saves-too, searches-too, worsts-too}
@@ -40,7 +40,7 @@ moved-each (suc zero) = record { bytes = bytes-all (1 ∷ []) refl; bytes-too = 
 moved-each (suc (suc i)) = moved-empty i
 
 pub by-hand : ByHand
-unfolding distance larger lesser middle accept cheaper cheapest choice holding holds insert lastEnd limitOver merge mergeAt mergeOf readings runs runsAfter settle settleIn worst broken equal faultAt firstFalse firstFault follows isWhole placeOr ruled rules allOf allZero clauses flat gapsBounded gapsGood laid ranged restZero roomy runsAllowed slot slotRanged slots sound stepsGood within zeros bits bytes reading recordAt records recordsOf saved savedRecord wordAt admitted checked counted fileVerdict found foundOf gapsKept grown isHeld late lateVerdict lookupOutcome nextVerdict traced writeVerdict wrote firstOver over searchOutcome sought soughtOf touches measured worstOutcome onward after answer answers begun kept left part
+unfolding distance larger lesser middle accept cheaper cheapest choice holding holds insert lastEnd limitOver merge mergeAt mergeOf readings runs runsAfter settle settleIn worst broken equal faultAt firstFalse firstFault follows isWhole placeOr ruled rules allOf allZero bounded clauses flat gapsGood laid ranged restZero roomy runsAllowed slot slotRanged slots sound within zeros bits bytes reading recordAt records recordsOf saved savedRecord wordAt admitted baseOf sizeGood checked counted fileVerdict found foundOf gapsKept grown isHeld late lateVerdict lookupOutcome nextVerdict traced writeVerdict wrote firstOver over searchOutcome sought soughtOf touches measured worstOutcome onward after answer answers begun kept left part
 by-hand =
     record {
       near-ground = refl;

@@ -13,6 +13,7 @@ use lib.Signed.{leZ}
 use Rattle.rule.specs.declared.Bucket.{Bucket}
 use Rattle.rule.specs.declared.Found.{Found}
 use Rattle.rule.specs.declared.Refusal.{Refusal}
+use Rattle.rule.specs.declared.Opening.{Opening}
 use Rattle.rule.specs.declared.Settings.{Settings}
 use Rattle.rule.specs.declared.State.{State}
 use Rattle.rule.specs.declared.Tally.{Tally}
@@ -62,12 +63,12 @@ saved-bytes (b ∷ t) i =
     word-bytes (b .start) count (word-bytes (b .count) least (word-bytes (bits (b .least)) largest (word-bytes (bits (b .largest)) (saved t) (saved-bytes t)))) i
 
 -- an accepted load of bytes leaves a sound trace
-load-left : (g : Settings) (f : List ℕ) (l : List ℤ) → AllBytes f → (v : Verdict State) → loaded g f l .0 ≡ v → LeftBy v (loaded g f l .1)
+load-left : (g : Opening) (f : List ℕ) (l : List ℤ) → AllBytes f → (v : Verdict State) → loaded g f l .0 ≡ v → LeftBy v (loaded g f l .1)
 unfolding LeftBy
 load-left g f l known (refused r) e = tt
 load-left g f l known (accepted t) e = load-sound g f l t known e
 
-load-leaves : (g : Settings) (f : List ℕ) (l : List ℤ) → AllBytes f → LeavesSound (loaded g f l)
+load-leaves : (g : Opening) (f : List ℕ) (l : List ℤ) → AllBytes f → LeavesSound (loaded g f l)
 load-leaves g f l known = load-left g f l known (loaded g f l .0) refl
 
 -- what is written of a table is all that a file has
@@ -167,7 +168,7 @@ module _ (d : ℤ) where
 
   -- ---- what open and load ask
 
-  admitted-moved : (g : Settings) (l m : List ℤ) → length m ≡ length l → (v w : Verdict Table) → w ≡ movedVerdict v → admitted g m w ≡ movedVerdict (admitted g l v)
+  admitted-moved : (g : Opening) (l m : List ℤ) → length m ≡ length l → (v w : Verdict Table) → w ≡ movedVerdict v → admitted g m w ≡ movedVerdict (admitted g l v)
   unfolding admitted roomy
   admitted-moved g l m long v w e = rw long (checked-moved _ v w e)
 
@@ -272,7 +273,7 @@ module _ (d : ℤ) where
     unfolding answer left movedAnswer movedVerdict begins
     step (opens-too g l n long) =
         let k = keptAs g in
-        along begins k l n _ _ (admitted-moved k l n long (accepted []) (accepted []) refl) (begun-goes k l n _ (open-leaves g l)) (open-leaves g n)
+        along begins k l n _ _ (admitted-moved g l n long (accepted []) (accepted []) refl) (begun-goes k l n _ (open-leaves g l)) (open-leaves g n)
     step (nexts-too v fits fits-too) =
         let s = c .state in
         along fed (s .settings) (c .room) m _ _ (next-moved s (c .room) m (a .twin) v) (fed-goes _ (next-leaves s (c .room) v (signed-fits v fits))) (next-leaves s m (v +ℤ d) (signed-fits (v +ℤ d) fits-too))
@@ -294,7 +295,7 @@ module _ (d : ℤ) where
         let f = fileAt c i in
         let too = getD gs i [] in
         let moves = a .files i in
-        along begins k l n _ _ (admitted-moved k l n long (fileVerdict k f) (fileVerdict k too) (file-verdict-moved k f too moves)) (begun-goes k l n _ (load-leaves g f l (moves .bytes))) (load-leaves g too n (moves .bytes-too))
+        along begins k l n _ _ (admitted-moved g l n long (fileVerdict k f) (fileVerdict k too) (file-verdict-moved k f too moves)) (begun-goes k l n _ (load-leaves g f l (moves .bytes))) (load-leaves g too n (moves .bytes-too))
 
   -- ---- any calls
 

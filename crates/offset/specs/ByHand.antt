@@ -7,9 +7,10 @@ use lib.ListN.{replicate}
 use Rattle.rule.specs.declared.Found.{Found}
 use Rattle.rule.specs.declared.Refusal.{Refusal}
 use Rattle.rule.specs.declared.Settings.{Settings}
+use Rattle.rule.specs.declared.Size.the-variants.{Steps, Base}
 use Rattle.rule.specs.declared.State.{State}
 use Rattle.rule.specs.declared.Written.{Written}
-use Rattle.rule.specs.ByHand.{bucket, gappy, inOrder}
+use Rattle.rule.specs.ByHand.{bucket, gappy, gappyBase, inOrder, ofBase}
 use Rattle.rule.specs.Calls.{accepted, refused}
 use Rattle.over.specs.declared.Sought.{Sought}
 use Rattle.rule.specs.declared.Measured.{Measured}
@@ -20,14 +21,14 @@ abbrev pub now : Settings → ℕ → ℕ → ℕ → State
 now g used runs readings = record { settings = g; used = used; runs = runs; readings = readings }
 
 abbrev pub fresh : List (List ℕ) → Caller
-fresh files = idle (now (inOrder 1) 0 0 0) (record { accepted = 0; refused = 0; merges = 0 }) files
+fresh files = idle (now (ofBase 2) 0 0 0) (record { accepted = 0; refused = 0; merges = 0 }) files
 
 -- ---- in order
 
--- with one step: the first two of three readings become one bucket; every other call, what was saved is loaded, and again after an open; what is lent holds n
+-- with one step: the first two of three readings become one bucket; every other call, what was saved is loaded by C, and again after an open by B; what is lent holds n
 abbrev pub calls : ℕ → ℤ → ℤ → ℤ → List Call
 calls n x y z =
-    opens (inOrder 1) (replicate 12 (pos n))
+    opens (inOrder (Steps 1)) (replicate 12 (pos n))
     ∷ nexts x
     ∷ nexts y
     ∷ nexts z
@@ -38,23 +39,23 @@ calls n x y z =
     ∷ worsts
     ∷ rows (replicate 3 (bucket n n (pos n) (pos n)))
     ∷ saves (replicate 40 n)
-    ∷ loads (inOrder 1) 0 (replicate 13 (pos n))
+    ∷ loads (inOrder (Base 2)) 0 (replicate 13 (pos n))
     ∷ lookups 0
     ∷ lookups 3
     ∷ nexts z
     ∷ worsts
     ∷ rows (replicate 2 (bucket n n (pos n) (pos n)))
-    ∷ opens (inOrder 1) (replicate 12 (pos n))
-    ∷ loads (inOrder 1) 0 (replicate 13 (pos n))
+    ∷ opens (inOrder (Steps 1)) (replicate 12 (pos n))
+    ∷ loads (inOrder (Steps 1)) 0 (replicate 13 (pos n))
     ∷ []
 
 -- by level, least and largest of the first bucket and the reading of the second
 abbrev pub told : ℤ → ℤ → ℤ → ℤ → List Answer
 told level least largest last =
-    traced (accepted (now (inOrder 1) 0 0 0))
-    ∷ traced (accepted (now (inOrder 1) 1 1 1))
-    ∷ traced (accepted (now (inOrder 1) 2 1 2))
-    ∷ traced (accepted (now (inOrder 1) 2 1 3))
+    traced (accepted (now (ofBase 2) 0 0 0))
+    ∷ traced (accepted (now (ofBase 2) 1 1 1))
+    ∷ traced (accepted (now (ofBase 2) 2 1 2))
+    ∷ traced (accepted (now (ofBase 2) 2 1 3))
     ∷ shown (Found.Level level 2 least largest)
     ∷ pointed (Sought.At 0 0)
     ∷ pointed (Sought.At 1 2)
@@ -62,14 +63,14 @@ told level least largest last =
     ∷ measured (Measured.Error 2)
     ∷ drawn (Written.Buckets 2) (bucket 0 2 least largest ∷ bucket 2 1 last last ∷ [])
     ∷ filed (Written.Buckets 2)
-    ∷ traced (accepted (now (inOrder 1) 2 1 3))
+    ∷ traced (accepted (now (ofBase 2) 2 1 3))
     ∷ shown (Found.Level level 2 least largest)
     ∷ shown (Found.Refused Refusal.Absent)
-    ∷ traced (accepted (now (inOrder 1) 2 1 4))
+    ∷ traced (accepted (now (ofBase 2) 2 1 4))
     ∷ measured (Measured.Error 2)
     ∷ drawn (Written.Buckets 2) (bucket 0 2 least largest ∷ bucket 2 2 last last ∷ [])
-    ∷ traced (accepted (now (inOrder 1) 0 0 0))
-    ∷ traced (accepted (now (inOrder 1) 2 1 3))
+    ∷ traced (accepted (now (ofBase 2) 0 0 0))
+    ∷ traced (accepted (now (ofBase 2) 2 1 3))
     ∷ []
 
 -- ---- late
@@ -79,13 +80,13 @@ abbrev pub lateCalls : ℕ → ℤ → ℤ → List Call
 lateCalls n x y =
     worsts
     ∷ searches 0 9 x
-    ∷ opens (gappy 2 3) (replicate 32 (pos n))
+    ∷ opens (gappy (Steps 2) 3) (replicate 32 (pos n))
     ∷ lates 5 x
     ∷ lates 5 y
     ∷ nexts y
     ∷ saves (replicate 16 n)
     ∷ lates 3 y
-    ∷ opens (inOrder 1) []
+    ∷ opens (inOrder (Steps 1)) []
     ∷ saves []
     ∷ rows []
     ∷ searches 3 5 y
@@ -93,16 +94,16 @@ lateCalls n x y =
     ∷ searches 4 4 x
     ∷ searches 9 16777216 x
     ∷ saves (replicate 40 n)
-    ∷ loads (gappy 1 2) 0 []
+    ∷ loads (gappy (Steps 1) 2) 0 []
     ∷ lookups 5
-    ∷ loads (gappy 1 2) 1 (replicate 20 (pos n))
+    ∷ loads (gappy (Steps 1) 2) 1 (replicate 20 (pos n))
     ∷ lookups 3
     ∷ lookups 5
     ∷ lates 6 y
     ∷ lates 7 x
     ∷ lates 8 x
     ∷ saves (replicate 48 n)
-    ∷ loads (gappy 1 2) 2 (replicate 20 (pos n))
+    ∷ loads (gappy (Steps 1) 2) 2 (replicate 20 (pos n))
     ∷ []
 
 -- by the first reading
@@ -110,12 +111,12 @@ abbrev pub toldLate : ℤ → List Answer
 toldLate x =
     measured (Measured.Refused Refusal.Unsound)
     ∷ pointed (Sought.Refused Refusal.Unsound)
-    ∷ traced (accepted (now (gappy 2 3) 0 0 0))
-    ∷ traced (accepted (now (gappy 2 3) 1 1 1))
+    ∷ traced (accepted (now (gappyBase 4 3) 0 0 0))
+    ∷ traced (accepted (now (gappyBase 4 3) 1 1 1))
     ∷ traced (refused Refusal.Taken)
     ∷ traced (refused Refusal.Kind)
     ∷ filed (Written.Buckets 1)
-    ∷ traced (accepted (now (gappy 2 3) 2 2 2))
+    ∷ traced (accepted (now (gappyBase 4 3) 2 2 2))
     ∷ traced (refused Refusal.Room)
     ∷ filed (Written.Refused Refusal.Short)
     ∷ drawn (Written.Refused Refusal.Short) []
@@ -126,14 +127,14 @@ toldLate x =
     ∷ filed (Written.Buckets 2)
     ∷ traced (refused Refusal.Room)
     ∷ shown (Found.Level x 0 x x)
-    ∷ traced (accepted (now (gappy 1 2) 1 1 1))
+    ∷ traced (accepted (now (gappyBase 2 2) 1 1 1))
     ∷ shown (Found.Refused Refusal.Absent)
     ∷ shown (Found.Level x 0 x x)
-    ∷ traced (accepted (now (gappy 1 2) 2 1 2))
-    ∷ traced (accepted (now (gappy 1 2) 3 1 3))
-    ∷ traced (accepted (now (gappy 1 2) 3 1 4))
+    ∷ traced (accepted (now (gappyBase 2 2) 2 1 2))
+    ∷ traced (accepted (now (gappyBase 2 2) 3 1 3))
+    ∷ traced (accepted (now (gappyBase 2 2) 3 1 4))
     ∷ filed (Written.Buckets 3)
-    ∷ traced (accepted (now (gappy 1 2) 1 1 1))
+    ∷ traced (accepted (now (gappyBase 2 2) 1 1 1))
     ∷ []
 
 -- ---- files from elsewhere
@@ -150,7 +151,7 @@ abbrev pub filesMoved : List (List ℕ)
 filesMoved = given (230 ∷ 3 ∷ 0 ∷ 0 ∷ []) (233 ∷ 3 ∷ 0 ∷ 0 ∷ [])
 
 abbrev pub fileCalls : List Call
-fileCalls = loads (inOrder 1) 0 (replicate 12 (pos 7)) ∷ loads (inOrder 1) 1 (replicate 12 (pos 7)) ∷ []
+fileCalls = loads (inOrder (Steps 1)) 0 (replicate 12 (pos 7)) ∷ loads (inOrder (Steps 1)) 1 (replicate 12 (pos 7)) ∷ []
 
 abbrev pub toldFiles : List Answer
 toldFiles = traced (refused (Refusal.Record 1)) ∷ traced (refused Refusal.Length) ∷ []

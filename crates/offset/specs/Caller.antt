@@ -5,7 +5,7 @@ use lib.IntN.{ℤ}
 use lib.ListN.{getD, take}
 use Rattle.rule.specs.declared.Bucket.{Bucket}
 use Rattle.rule.specs.declared.Found.{Found}
-use Rattle.rule.specs.declared.Settings.{Settings}
+use Rattle.rule.specs.declared.Opening.{Opening}
 use Rattle.rule.specs.declared.State.{State}
 use Rattle.rule.specs.declared.Tally.{Tally}
 use Rattle.rule.specs.declared.Written.{Written}
@@ -27,7 +27,7 @@ idle s t files = record { state = s; room = []; tally = t; files = files }
 
 -- a call, with what is named and lent at it: a search gets the first and the last tick of a range and a bar, open and load get a room, row and save an output, and load the place of a file
 pub data Call : Type 0 where
-  opens : Settings → List ℤ → Call
+  opens : Opening → List ℤ → Call
   nexts : ℤ → Call
   lates : ℕ → ℤ → Call
   lookups : ℕ → Call
@@ -35,7 +35,7 @@ pub data Call : Type 0 where
   worsts : Call
   rows : List Bucket → Call
   saves : List ℕ → Call
-  loads : Settings → ℕ → List ℤ → Call
+  loads : Opening → ℕ → List ℤ → Call
 
 -- of open, next, late and load; of lookup; of the search; of the worst error; of row, with the buckets that it wrote; of save
 pub data Answer : Type 0 where

@@ -8,7 +8,7 @@ use lib.ListN.{getD, length}
 use lib.Signed.{leZ}
 use Rattle.rule.specs.declared.Bucket.{Bucket}
 use Rattle.rule.specs.declared.Found.{Found}
-use Rattle.rule.specs.declared.Settings.{Settings}
+use Rattle.rule.specs.declared.Opening.{Opening}
 use Rattle.rule.specs.declared.State.{State}
 use Rattle.rule.specs.declared.Tally.{Tally}
 use Rattle.rule.specs.Bucket.{error, level, spread}
@@ -57,7 +57,7 @@ FilesMoved d fs gs = (i : ℕ) → FileMoved d (getD fs i []) (getD gs i [])
 
 -- the same call by a second caller, whose reading is d more and fits 32 bits as the first one's does, and whose bar is d more; each lends a room or an output of its own, as long as the other's
 pub data Higher (d : ℤ) : Call → Call → Type 0 where
-  opens-too : (g : Settings) (l m : List ℤ) → length m ≡ length l → Higher d (opens g l) (opens g m)
+  opens-too : (g : Opening) (l m : List ℤ) → length m ≡ length l → Higher d (opens g l) (opens g m)
   nexts-too : (v : ℤ) → signed v ≡ true → signed (v +ℤ d) ≡ true → Higher d (nexts v) (nexts (v +ℤ d))
   lates-too : (tick : ℕ) (v : ℤ) → signed v ≡ true → signed (v +ℤ d) ≡ true → Higher d (lates tick v) (lates tick (v +ℤ d))
   lookups-too : (tick : ℕ) → Higher d (lookups tick) (lookups tick)
@@ -65,7 +65,7 @@ pub data Higher (d : ℤ) : Call → Call → Type 0 where
   worsts-too : Higher d worsts worsts
   rows-too : (out too : List Bucket) → length too ≡ length out → Higher d (rows out) (rows too)
   saves-too : (out too : List ℕ) → length too ≡ length out → Higher d (saves out) (saves too)
-  loads-too : (g : Settings) (i : ℕ) (l m : List ℤ) → length m ≡ length l → Higher d (loads g i l) (loads g i m)
+  loads-too : (g : Opening) (i : ℕ) (l m : List ℤ) → length m ≡ length l → Higher d (loads g i l) (loads g i m)
 
 -- so are calls in turn
 pub data AllHigher (d : ℤ) : List Call → List Call → Type 0 where

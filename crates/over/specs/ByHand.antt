@@ -5,7 +5,7 @@ use mathlib.Core.List.{[], _∷_, _++_}
 use lib.IntN.{ℤ, pos, negsuc}
 use lib.ListN.{replicate}
 use Rattle.rule.specs.declared.Refusal.{Refusal}
-use Rattle.rule.specs.ByHand.{bucket, gappy}
+use Rattle.rule.specs.ByHand.{bucket, gappyBase}
 use Rattle.rule.specs.Room.{flat}
 use Rattle.rule.specs.Table.{Table}
 use Rattle.over.specs.declared.Sought.{Sought}
@@ -18,7 +18,7 @@ buckets = bucket 0 3 (negsuc 0) (pos 4) ∷ bucket 3 2 (pos 8) (pos 9) ∷ bucke
 -- in a room of five slots, the needed number; so many in use are said to be there
 abbrev pub asked : ℕ → ℕ → ℕ → ℤ → Sought
 asked used first last bar =
-    searchOutcome (record { settings = gappy 1 2; used = used; runs = 2; readings = 7 }) (flat buckets ++ replicate 8 (pos 0)) first last bar
+    searchOutcome (record { settings = gappyBase 2 2; used = used; runs = 2; readings = 7 }) (flat buckets ++ replicate 8 (pos 0)) first last bar
 
 -- below every reading
 abbrev pub low : ℤ

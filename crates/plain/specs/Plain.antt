@@ -15,7 +15,7 @@ use Rattle.trace.specs.declared.Answer.{Answer}
 use Rattle.rule.specs.declared.Measured.{Measured}
 use Rattle.fields.specs.declared.Named.{Named}
 use Rattle.fields.specs.declared.Fields.{Fields}
-use Rattle.fields.specs.States.{fieldsOf, none, settingsOf, stateFrom}
+use Rattle.fields.specs.States.{fieldsOf, none, openingOf, stateFrom}
 use Rattle.plain.specs.declared.Reply.{Reply}
 use Rattle.plain.specs.declared.Shown.{Shown}
 use Rattle.plain.specs.declared.Hit.{Hit}
@@ -59,7 +59,7 @@ erring (Measured.Refused r) = record { refusal = number r; place = place r; erro
 -- ---- what each exported function answers, with the room or the output as it leaves it
 
 abbrev pub openReply : Named → List ℤ → Reply × List ℤ
-openReply named room = replied none (answered (opened (settingsOf named) room))
+openReply named room = replied none (answered (opened (openingOf named) room))
 
 abbrev pub nextReply : Fields → List ℤ → ℤ → Reply × List ℤ
 nextReply state room value = replied state (answered (nextOutcome (stateFrom state) room value))
@@ -90,4 +90,4 @@ abbrev pub saveReply : Fields → List ℤ → List ℕ → Counted × List ℕ
 saveReply state room out = told (saveOutcome (stateFrom state) room out)
 
 abbrev pub loadReply : Named → List ℕ → List ℤ → Reply × List ℤ
-loadReply named file room = replied none (answered (loaded (settingsOf named) file room))
+loadReply named file room = replied none (answered (loaded (openingOf named) file room))

@@ -12,13 +12,14 @@ use lib.ListN.{length, take}
 use Rattle.rule.specs.declared.Bucket.{Bucket}
 use Rattle.rule.specs.declared.Kind.{Kind}
 use Rattle.rule.specs.declared.Kind.the-variants.{InOrder, Late}
+use Rattle.rule.specs.declared.Opening.{Opening}
 use Rattle.rule.specs.declared.Settings.{Settings}
 use Rattle.rule.specs.declared.State.{State}
 use Rattle.rule.specs.declared.Found.{Found}
 use Rattle.rule.specs.Bucket.{end, error, level, spread}
 use Rattle.rule.specs.Bytes.{saved}
-use Rattle.rule.specs.Calls.{Verdict, accepted, checked, foundOf, found, gapsKept, isHeld, kept, late, lateVerdict, loaded, loadVerdict, lookupOutcome, nextVerdict, admitted, stateOf, traced}
-use Rattle.rule.specs.Numbers.{recordWidth, slotWidth, ticks}
+use Rattle.rule.specs.Calls.{Verdict, accepted, baseOf, checked, foundOf, found, gapsKept, isHeld, kept, late, lateVerdict, loaded, loadVerdict, lookupOutcome, nextVerdict, admitted, stateOf, traced}
+use Rattle.rule.specs.Numbers.{mostBase, recordWidth, slotWidth, ticks}
 use Rattle.rule.specs.Room.{laid, slots, sound, tableOf}
 use Rattle.rule.specs.Table.{Table, Ordered, accept, holders, holding, holds, lastEnd, limit, limitOver, needed, nextTick, readings, runs}
 use Rattle.rule.specs.Rules.{follows}
@@ -31,7 +32,7 @@ use Rattle.rooms.proofs.Laying.{length-slots, slots-laid}
 use Rattle.rooms.proofs.Placing.{held-counts}
 use Rattle.rule.proofs.Signed.{signed-fits}
 use Rattle.rooms.proofs.Sounding.{sound-facts, sound-ordered}
-use Rattle.rooms.proofs.Bounds.{steps-bounds}
+use Rattle.rooms.proofs.Bounds.{bounds}
 use Rattle.rooms.specs.Left.{LeavesSound, LeftBy}
 use Rattle.storage.proofs.Filing.{save-writes}
 use Rattle.storage.proofs.RoundTrips.{loaded-saved, saved-accepted, saved-loaded, saved-loaded-slots}
@@ -41,14 +42,14 @@ use Rattle.demands.specs.History.{Accepted, Reading, Takes, arrived, runsOf, ta
 use Rattle.demands.specs.Served.{Served}
 use Rattle.demands.proofs.Instance.{demand3 as of-tables}
 use Rattle.promises.specs.Reached.{Reached, SameSettings, late-refused, lates, load-refused, loads, next-refused, nexts, open-refused, opens}
-use Rattle.answered.specs.Answered.{slotsNeeded}
+use Rattle.answered.specs.Answered.{baseNamed, namedBy, slotsNeeded}
 use Rattle.promises.specs.Demands.{Demand2, Demand3, Upheld}
-use Rattle.answered.proofs.Answering.{limit-is, needed-is}
+use Rattle.answered.proofs.Answering.{base-is, limit-named, needed-is}
 use Rattle.answered.proofs.Outcomes.{accepted-is, bytes-written, not-accepted, traced-refused}
 
 -- ---- along the way
 
-record Known (g : Settings) (rs : List Reading) (s : State) (l : List ℤ) : Type 0 where
+record Known (g : Opening) (rs : List Reading) (s : State) (l : List ℤ) : Type 0 where
   named : s .settings ≡ kept g
   fit : sound s l ≡ true
   buckets : tableOf s l ≡ tableAfter (s .settings) rs
@@ -67,15 +68,7 @@ same-slots s l room =
 laid-table : (g : Settings) (t : Table) (l : List ℤ) → tableOf (stateOf g t) (laid (needed g) t l) ≡ t
 laid-table g t l = slots-laid (needed g) t l
 
--- ---- saved, and loaded with the settings named
-
-twice : (k : Kind) (gaps : ℕ) → gapsKept k (gapsKept k gaps) ≡ gapsKept k gaps
-unfolding gapsKept
-twice InOrder gaps = refl
-twice Late gaps = refl
-
-pub kept-twice : (g : Settings) → kept (kept g) ≡ kept g
-kept-twice g = λ i. record { kind = g .kind; steps = g .steps; gaps = twice (g .kind) (g .gaps) i }
+-- ---- what is named
 
 -- settings that are the same, in order but for K, are kept as the same
 kept-gaps : (k : Kind) (m n : ℕ) → (late k ≡ true → m ≡ n) → gapsKept k m ≡ gapsKept k n
@@ -83,10 +76,11 @@ unfolding gapsKept late
 kept-gaps InOrder m n e = refl
 kept-gaps Late m n e = e refl
 
-pub kept-same : (h g : Settings) → SameSettings h g → kept h ≡ kept g
+pub kept-same : (h g : Opening) → SameSettings h g → kept h ≡ kept g
 kept-same h g same =
     let gaps : gapsKept (h .kind) (h .gaps) ≡ gapsKept (g .kind) (g .gaps) = ap (λ (k : Kind). gapsKept k (h .gaps)) (same .kind) ∙ kept-gaps (g .kind) (h .gaps) (g .gaps) (same .gaps) in
-    λ i. record { kind = same .kind i; steps = same .steps i; gaps = gaps i }
+    let base : baseOf (h .size) ≡ baseOf (g .size) = base-is (h .size) ∙ same .base ∙ sym (base-is (g .size)) in
+    λ i. record { kind = same .kind i; base = base i; gaps = gaps i }
 
 -- K as kept, in 01's words
 pub gaps-are : (k : Kind) (n : ℕ) → gapsKept k n ≡ cond (late k) n 0
@@ -94,10 +88,7 @@ unfolding gapsKept late
 gaps-are InOrder n = refl
 gaps-are Late n = refl
 
-pub loaded-kept : (g h : Settings) (file : List ℕ) (room : List ℤ) → kept h ≡ kept g → loaded h file room ≡ loaded g file room
-loaded-kept g h file room e = ap (λ (k : Settings). traced k room (loadVerdict k file room)) e
-
-module _ {g : Settings} {rs : List Reading} {s : State} {l : List ℤ} (k : Known g rs s l) (r : Reading) (t : State) (m : List ℤ) where
+module _ {g : Opening} {rs : List Reading} {s : State} {l : List ℤ} (k : Known g rs s l) (r : Reading) (t : State) (m : List ℤ) where
   step : Takes (s .settings .kind) (tableOf s l) (r .tick) → t ≡ stateOf (s .settings) (accept (s .settings) (tableOf s l) (r .tick) (r .value))
       → m ≡ laid (needed (s .settings)) (accept (s .settings) (tableOf s l) (r .tick) (r .value)) l → sound t m ≡ true → Known g (r ∷ rs) t m
   unfolding tableAfter Accepted
@@ -124,7 +115,7 @@ unfolding late Takes
 late-takes InOrder t tick e h = absurd (false≢true e)
 late-takes Late t tick e h = h
 
-known : {g : Settings} {rs : List Reading} {s : State} {l : List ℤ} → Reached g rs s l → Known g rs s l
+known : {g : Opening} {rs : List Reading} {s : State} {l : List ℤ} → Reached g rs s l → Known g rs s l
 unfolding tableAfter Accepted slots
 known {g} (opens l {m = m} {s = s} e) =
     open-either g l (λ w. traced (kept g) l w ≡ (accepted s, m) → Known g [] s m) (λ q f. absurd (not-accepted (kept g) l q f))
@@ -147,13 +138,12 @@ known {g} (lates {rs = rs} {s = s} {t = t} {l = l} {m = m} tick v range r e) =
     step k q t m (late-takes (s .settings .kind) (tableOf s l) tick (p .kind) (late-free p free)) (o .0) (o .1) (left-sound e (late-leaves s l tick v (signed-fits v range)))) e
 known {g} (next-refused {rs = rs} {s = s} {l = l} {m = m} {r = q} v r e) = subst (Known g rs s) (sym (traced-refused (s .settings) l (nextVerdict s l v) q m e)) (known r)
 known {g} (late-refused {rs = rs} {s = s} {l = l} {m = m} {r = q} tick v r e) = subst (Known g rs s) (sym (traced-refused (s .settings) l (lateVerdict s l tick v) q m e)) (known r)
-known {g} (open-refused {rs = rs} {s = s} {l = l} {m = m} {r = q} h r e) = subst (Known g rs s) (sym (traced-refused (kept h) l (admitted (kept h) l (accepted [])) q m e)) (known r)
-known {g} (load-refused {rs = rs} {s = s} {l = l} {m = m} {r = q} h file r e) = subst (Known g rs s) (sym (traced-refused (kept h) l (loadVerdict (kept h) file l) q m e)) (known r)
+known {g} (open-refused {rs = rs} {s = s} {l = l} {m = m} {r = q} h r e) = subst (Known g rs s) (sym (traced-refused (kept h) l (admitted h l (accepted [])) q m e)) (known r)
+known {g} (load-refused {rs = rs} {s = s} {l = l} {m = m} {r = q} h file r e) = subst (Known g rs s) (sym (traced-refused (kept h) l (loadVerdict h file l) q m e)) (known r)
 known {g} (loads {rs = rs} {s = s} {t = t} {l = l} {m = m} {written = written} {n = n} out room h same r saves e) =
     let k = known r in
     let file : take (recordWidth * n) written ≡ saved (tableOf s l) = bytes-written s l out n written saves in
-    let again : loaded (s .settings) (saved (tableOf s l)) room ≡ (accepted t, m) = loaded-kept h (s .settings) (saved (tableOf s l)) room (ap kept (k .named) ∙ kept-twice g ∙ sym (kept-same h g same)) ∙ ap (λ (f : List ℕ). loaded h f room) (sym file) ∙ e in
-    let w = saved-accepted s l room t m (k .fit) again in
+    let w = saved-accepted h s l room t m (kept-same h g same ∙ sym (k .named)) (k .fit) (ap (λ (f : List ℕ). loaded h f room) (sym file) ∙ e) in
     let read : tableOf s m ≡ tableOf s l = ap (λ (x : List ℤ). tableOf s x) (w .1) ∙ same-slots s l room in
     subst (λ (x : State). Known g rs x m) (sym (w .0)) (record { named = k .named; fit = w .2; buckets = read ∙ k .buckets; taken = k .taken })
 
@@ -187,19 +177,19 @@ follows-on Late e t h r = absurd (true≢false h)
 follows-on InOrder e [] h r = omega arith
 follows-on InOrder e (b ∷ t) h r = omega (arith, follows-on InOrder (end b) t h (r .1), eqb-true (b .start) e (r .0 .follow))
 
-pub keeps : {g : Settings} {rs : List Reading} {s : State} {l : List ℤ} → Reached g rs s l → Upheld g rs s l
+pub keeps : {g : Opening} {rs : List Reading} {s : State} {l : List ℤ} → Reached g rs s l → Upheld g rs s l
 unfolding isHeld
 keeps {g} {rs} {s} {l} r =
     let k = known r in
     let f = sound-facts s l (k .fit) in
-    let positive : 1 ≤ s .settings .steps = steps-bounds (s .settings) (f .steps-good) .0 in
+    let positive : 1 ≤ s .settings .base = bounds mostBase (s .settings .base) (f .base-good) .0 in
     let d = of-tables (s .settings) rs positive (k .taken) in
-    let v : Served (s .settings .kind) (2 * s .settings .steps) rs (tableOf s l) (d .0) = subst (λ (t : Table). Served (s .settings .kind) (2 * s .settings .steps) rs t (d .0)) (sym (k .buckets)) (d .1) in
-    let same : s .settings .steps ≡ g .steps = ap (λ (x : Settings). x .steps) (k .named) in
+    let v : Served (s .settings .kind) (s .settings .base) rs (tableOf s l) (d .0) = subst (λ (t : Table). Served (s .settings .kind) (s .settings .base) rs t (d .0)) (sym (k .buckets)) (d .1) in
+    let same : s .settings .base ≡ baseNamed (g .size) = ap (λ (x : Settings). x .base) (k .named) ∙ base-is (g .size) in
     record {
       named = k .named;
       kind-named = ap (λ (x : Settings). x .kind) (k .named);
-      steps-named = same;
+      base-named = same;
       gaps-named = ap (λ (x : Settings). x .gaps) (k .named) ∙ gaps-are (g .kind) (g .gaps);
       fit = k .fit;
       buckets = k .buckets ∙ ap (λ (x : Settings). tableAfter x rs) (k .named);
@@ -210,7 +200,7 @@ keeps {g} {rs} {s} {l} r =
                 record { bucket = b .0; answer = shows s l (q .tick) (b .0) (k .fit) (held-small (s .settings .kind) 0 (q .tick) (tableOf s l) (f .rules) (omega (arith, held-counts 0 (q .tick) (tableOf s l) (sound-ordered s l f), is-held (holding (q .tick) (tableOf s l)) (b .1)))) (b .1); near = b .2 },
             p .1,
           );
-      size = omega (arith, v .size, length-slots l 0 (s .used), ap (limit (s .settings)) (v .true-runs), ap (λ (x : Settings). limit x (runsOf rs)) (k .named), limit-is (g .kind) (2 * g .steps) (runsOf rs));
+      size = omega (arith, v .size, length-slots l 0 (s .used), ap (limit (s .settings)) (v .true-runs), ap (λ (x : Settings). limit x (runsOf rs)) (k .named), limit-named g (runsOf rs));
       lookups = λ tick b m h.
           let o = sound-ordered s l f in
           shows s l tick b (k .fit) (held-small (s .settings .kind) 0 tick (tableOf s l) (f .rules) (held-member tick m h)) (held-is 0 tick (tableOf s l) b o m h);
@@ -250,18 +240,25 @@ demand2 = record {
   extremes = λ r. keeps r .extremes;
   gapless = λ {g} {rs} {s} {l} r b m tick h. counted-once (arrived tick rs) (omega (arith, keeps r .covers tick, held-member tick m h));
   spreads = λ {g} {rs} {s} {l} r b m. spread-small b (fitting-member (fitted-slots l 0 (s .used) (sound-facts s l (keeps r .fit) .ranges)) m);
-  one-run = λ g e. late-limit (g .kind) (2 * g .steps) e;
+  one-run = λ s e. late-limit (s .kind) (s .base) e;
   saves = λ {g} {rs} {s} {l} r out long. save-writes s l out (keeps r .fit) long;
   saved-loaded = λ {g} {h} {rs} {s} {l} r same room long.
       let k = keeps r in
-      let sized : needed (s .settings) ≡ slotsNeeded g = ap needed (k .named) ∙ needed-is g in
+      let sized : needed (s .settings) ≡ slotsNeeded (namedBy g) = ap needed (k .named) ∙ needed-is g in
       let enough : slotWidth * needed (s .settings) ≤ length room = omega (arith, sized, long) in
-      let by : loaded h (saved (tableOf s l)) room ≡ loaded (s .settings) (saved (tableOf s l)) room = loaded-kept (s .settings) h (saved (tableOf s l)) room (kept-same h g same ∙ sym (kept-twice g) ∙ ap kept (sym (k .named))) in (
-        ap (λ (o : Verdict State × List ℤ). o .0) (by ∙ saved-loaded s l room (k .fit) enough),
-        subst (λ (n : ℕ). take (4 * n) (loaded h (saved (tableOf s l)) room .1) ≡ take (4 * n) l) sized (ap (λ (o : Verdict State × List ℤ). take (4 * needed (s .settings)) (o .1)) by ∙ saved-loaded-slots s l room (k .fit) enough),
+      let names : kept h ≡ s .settings = kept-same h g same ∙ sym (k .named) in (
+        ap (λ (o : Verdict State × List ℤ). o .0) (saved-loaded h s l room names (k .fit) enough),
+        subst (λ (n : ℕ). take (4 * n) (loaded h (saved (tableOf s l)) room .1) ≡ take (4 * n) l) sized (saved-loaded-slots h s l room names (k .fit) enough),
       );
   loaded-saved = loaded-saved;
 }
 
 pub demand3 : Demand3
-demand3 = record { picture = λ r. keeps r .picture; size = λ r. keeps r .size; covers = λ r. keeps r .covers }
+unfolding baseNamed
+demand3 = record {
+  picture = λ r. keeps r .picture;
+  picture-of-steps = λ r c E few near. keeps r .picture c E (omega arith) near;
+  size = λ r. keeps r .size;
+  size-of-steps = λ r. keeps r .size;
+  covers = λ r. keeps r .covers;
+}

@@ -7,7 +7,10 @@ use lib.IntN.{ℤ}
 use lib.ListN.{drop, length, take}
 use Rattle.rule.specs.declared.Bucket.{Bucket}
 use Rattle.rule.specs.declared.Found.{Found}
+use Rattle.rule.specs.declared.Kind.{Kind}
+use Rattle.rule.specs.declared.Opening.{Opening}
 use Rattle.rule.specs.declared.Settings.{Settings}
+use Rattle.rule.specs.declared.Size.the-variants.{Steps}
 use Rattle.rule.specs.declared.State.{State}
 use Rattle.rule.specs.declared.Written.{Written}
 use Rattle.rule.specs.Bucket.{distance, error, level, spread}
@@ -19,7 +22,7 @@ use Rattle.storage.specs.Bytes.{AllBytes}
 use Rattle.demands.specs.Curve.{Curve, steps}
 use Rattle.demands.specs.History.{Reading, arrived, runsOf, tableAfter}
 use Rattle.demands.specs.Served.{Extremes, Near}
-use Rattle.answered.specs.Answered.{mostSteps, slotsNeeded}
+use Rattle.answered.specs.Answered.{baseNamed, mostSteps, namedBy, slotsNeeded}
 use Rattle.promises.specs.Reached.{Reached, SameSettings}
 
 -- lookup itself answers, at the reading's tick, a level within E of the reading
@@ -28,23 +31,23 @@ pub record Seen (E : ℕ) (s : State) (l : List ℤ) (r : Reading) : Type 0 wher
   pub answer : lookupOutcome s l (r .tick) ≡ Found.Level (level bucket) (error bucket) (bucket .least) (bucket .largest)
   pub near : distance (r .value) (level bucket) ≤ E
 
--- of a trace opened with the settings g
-pub record Upheld (g : Settings) (rs : List Reading) (s : State) (l : List ℤ) : Type 0 where
-  -- the kind, B and K named at the opening are those of the state, K in order but for being kept as 0
+-- of a trace opened with what g names
+pub record Upheld (g : Opening) (rs : List Reading) (s : State) (l : List ℤ) : Type 0 where
+  -- the kind, the base limit and K named at the opening are those of the state, K in order but for being kept as 0
   pub named : s .settings ≡ kept g
   pub kind-named : s .settings .kind ≡ g .kind
-  pub steps-named : s .settings .steps ≡ g .steps
+  pub base-named : s .settings .base ≡ baseNamed (g .size)
   pub gaps-named : s .settings .gaps ≡ cond (late (g .kind)) (g .gaps) 0
   -- refusal 4 is never met
   pub fit : sound s l ≡ true
   -- demand 2: the buckets are those of the rule applied to the accepted readings
   pub buckets : tableOf s l ≡ tableAfter (kept g) rs
-  -- demand 3: against every curve of at most B flat steps, by lookup itself
-  pub picture : (c : Curve) (E : ℕ) → steps c ≤ g .steps → Near E c rs → ((r : Reading) → List·Memᴰ r rs → Seen E s l r) × (worst (tableOf s l) ≤ E)
+  -- demand 3: against every curve of at most half as many flat steps as the base limit, rounded up, by lookup itself
+  pub picture : (c : Curve) (E : ℕ) → steps c ≤ (baseNamed (g .size) + 1) / 2 → Near E c rs → ((r : Reading) → List·Memᴰ r rs → Seen E s l r) × (worst (tableOf s l) ≤ E)
   -- lookup shows, at each tick, the level, error, least and largest of the bucket that holds it
   pub lookups : (tick : ℕ) (b : Bucket) → List·Memᴰ b (tableOf s l) → holds tick b ≡ true → lookupOutcome s l tick ≡ Found.Level (level b) (error b) (b .least) (b .largest)
-  -- at most 2B steps, late one more for each unbroken run of the arrived ticks
-  pub size : s .used ≤ mostSteps g (runsOf rs)
+  -- at most C steps, late one more for each unbroken run of the arrived ticks
+  pub size : s .used ≤ mostSteps (namedBy g) (runsOf rs)
   -- the state's runs are those of the arrived ticks, and its readings are the accepted ones
   pub runs : s .runs ≡ runsOf rs
   pub readings : s .readings ≡ length rs
@@ -58,29 +61,34 @@ pub record Upheld (g : Settings) (rs : List Reading) (s : State) (l : List ℤ) 
 -- Demand 2: the buckets are those of the min-merge rule (late: its fragment form), and save and load round-trip both ways.
 pub record Demand2 : Type 0 where
   -- after any calls they are the rule's, applied to the accepted readings, with the settings named at the opening
-  pub buckets : {g : Settings} {rs : List Reading} {s : State} {l : List ℤ} → Reached g rs s l → tableOf s l ≡ tableAfter (kept g) rs
+  pub buckets : {g : Opening} {rs : List Reading} {s : State} {l : List ℤ} → Reached g rs s l → tableOf s l ≡ tableAfter (kept g) rs
   -- each has the least and the largest reading among exactly its ticks
-  pub extremes : {g : Settings} {rs : List Reading} {s : State} {l : List ℤ} → Reached g rs s l → (b : Bucket) → List·Memᴰ b (tableOf s l) → Extremes rs b
+  pub extremes : {g : Opening} {rs : List Reading} {s : State} {l : List ℤ} → Reached g rs s l → (b : Bucket) → List·Memᴰ b (tableOf s l) → Extremes rs b
   -- none spans a tick that has not arrived
-  pub gapless : {g : Settings} {rs : List Reading} {s : State} {l : List ℤ} → Reached g rs s l → (b : Bucket) → List·Memᴰ b (tableOf s l) → (tick : ℕ) → holds tick b ≡ true → arrived tick rs ≡ true
-  pub spreads : {g : Settings} {rs : List Reading} {s : State} {l : List ℤ} → Reached g rs s l → (b : Bucket) → List·Memᴰ b (tableOf s l) → spread b ≤ 4294967295
-  -- late, readings that happen to arrive in order are one run: the limit is 2B + 1
-  pub one-run : (g : Settings) → late (g .kind) ≡ true → limit g 1 ≡ 2 * g .steps + 1
+  pub gapless : {g : Opening} {rs : List Reading} {s : State} {l : List ℤ} → Reached g rs s l → (b : Bucket) → List·Memᴰ b (tableOf s l) → (tick : ℕ) → holds tick b ≡ true → arrived tick rs ≡ true
+  pub spreads : {g : Opening} {rs : List Reading} {s : State} {l : List ℤ} → Reached g rs s l → (b : Bucket) → List·Memᴰ b (tableOf s l) → spread b ≤ 4294967295
+  -- late, readings that happen to arrive in order are one run: the limit is C + 1, which is 2B + 1 where B was named
+  pub one-run : (s : Settings) → late (s .kind) ≡ true → limit s 1 ≡ s .base + 1
   -- save writes the buckets and nothing behind them, and load of these bytes with the same settings is the same trace, the same state and the same slots
-  pub saves : {g : Settings} {rs : List Reading} {s : State} {l : List ℤ} → Reached g rs s l → (out : List ℕ) → 16 * s .used ≤ length out
+  pub saves : {g : Opening} {rs : List Reading} {s : State} {l : List ℤ} → Reached g rs s l → (out : List ℕ) → 16 * s .used ≤ length out
       → saveOutcome s l out ≡ (Written.Buckets (s .used), saved (tableOf s l) ++ drop (16 * s .used) out)
-  pub saved-loaded : {g h : Settings} {rs : List Reading} {s : State} {l : List ℤ} → Reached g rs s l → SameSettings h g → (room : List ℤ) → 4 * slotsNeeded g ≤ length room
-      → let o = loaded h (saved (tableOf s l)) room in (o .0 ≡ accepted s) × (take (4 * slotsNeeded g) (o .1) ≡ take (4 * slotsNeeded g) l)
+  pub saved-loaded : {g h : Opening} {rs : List Reading} {s : State} {l : List ℤ} → Reached g rs s l → SameSettings h g → (room : List ℤ) → 4 * slotsNeeded (namedBy g) ≤ length room
+      → let o = loaded h (saved (tableOf s l)) room in (o .0 ≡ accepted s) × (take (4 * slotsNeeded (namedBy g)) (o .1) ≡ take (4 * slotsNeeded (namedBy g)) l)
   -- and bytes from anywhere that load accepts are the bytes that save writes of what it left
-  pub loaded-saved : (g : Settings) (file : List ℕ) (l : List ℤ) (t : State) (out : List ℕ) → AllBytes file → loaded g file l .0 ≡ accepted t → length file ≤ length out
+  pub loaded-saved : (g : Opening) (file : List ℕ) (l : List ℤ) (t : State) (out : List ℕ) → AllBytes file → loaded g file l .0 ≡ accepted t → length file ≤ length out
       → saveOutcome t (loaded g file l .1) out ≡ (Written.Buckets (length file / 16), file ++ drop (length file) out)
 
 -- Demand 3: nobody could have served better with half as many steps.
 pub record Demand3 : Type 0 where
-  -- for every curve of at most B flat steps: where all readings are within E of it, lookup shows each within E, and the worst error is at most E
-  pub picture : {g : Settings} {rs : List Reading} {s : State} {l : List ℤ} → Reached g rs s l → (c : Curve) (E : ℕ) → steps c ≤ g .steps → Near E c rs
+  -- for every C and every curve of at most (C + 1) / 2 flat steps, rounded down: where all readings are within E of it, lookup shows each within E, and the worst error is at most E
+  pub picture : {g : Opening} {rs : List Reading} {s : State} {l : List ℤ} → Reached g rs s l → (c : Curve) (E : ℕ) → steps c ≤ (baseNamed (g .size) + 1) / 2 → Near E c rs
       → ((r : Reading) → List·Memᴰ r rs → Seen E s l r) × (worst (tableOf s l) ≤ E)
-  -- ours has at most 2B steps, late one more for each unbroken run
-  pub size : {g : Settings} {rs : List Reading} {s : State} {l : List ℤ} → Reached g rs s l → s .used ≤ mostSteps g (runsOf rs)
+  -- of a trace opened with B, document 01's own sentence: for every curve of at most B flat steps
+  pub picture-of-steps : {k : Kind} {b gaps : ℕ} {rs : List Reading} {s : State} {l : List ℤ} → Reached (record { kind = k; size = Steps b; gaps = gaps }) rs s l
+      → (c : Curve) (E : ℕ) → steps c ≤ b → Near E c rs → ((r : Reading) → List·Memᴰ r rs → Seen E s l r) × (worst (tableOf s l) ≤ E)
+  -- ours has at most C steps, late one more for each unbroken run
+  pub size : {g : Opening} {rs : List Reading} {s : State} {l : List ℤ} → Reached g rs s l → s .used ≤ mostSteps (namedBy g) (runsOf rs)
+  -- opened with B, at most 2B, late one more for each unbroken run
+  pub size-of-steps : {k : Kind} {b gaps : ℕ} {rs : List Reading} {s : State} {l : List ℤ} → Reached (record { kind = k; size = Steps b; gaps = gaps }) rs s l → s .used ≤ 2 * b + cond (late k) (runsOf rs) 0
   -- and covers exactly the ticks of the accepted readings, each once
-  pub covers : {g : Settings} {rs : List Reading} {s : State} {l : List ℤ} → Reached g rs s l → (tick : ℕ) → holders tick (tableOf s l) ≡ cond (arrived tick rs) 1 0
+  pub covers : {g : Opening} {rs : List Reading} {s : State} {l : List ℤ} → Reached g rs s l → (tick : ℕ) → holders tick (tableOf s l) ≡ cond (arrived tick rs) 1 0

@@ -6,22 +6,23 @@ use mathlib.Core.List.{List, [], _∷_}
 use lib.IntN.{ℤ}
 use lib.ListN.{take}
 use Rattle.rule.specs.declared.Refusal.{Refusal}
-use Rattle.rule.specs.declared.Settings.{Settings}
+use Rattle.rule.specs.declared.Opening.{Opening}
 use Rattle.rule.specs.declared.State.{State}
 use Rattle.rule.specs.declared.Written.{Written}
 use Rattle.rule.specs.Calls.{refused, accepted, late, lateOutcome, loaded, nextOutcome, opened, saveOutcome}
 use Rattle.rule.specs.Room.{signed, tableOf}
 use Rattle.rule.specs.Table.{nextTick}
 use Rattle.demands.specs.History.{Reading}
+use Rattle.answered.specs.Answered.{baseNamed}
 
--- the same settings, in order with any K
-pub record SameSettings (h g : Settings) : Type 0 where
+-- the same settings: the same base limit, named by B or by C, and in order any K
+pub record SameSettings (h g : Opening) : Type 0 where
   pub kind : h .kind ≡ g .kind
-  pub steps : h .steps ≡ g .steps
+  pub base : baseNamed (h .size) ≡ baseNamed (g .size)
   pub gaps : late (g .kind) ≡ true → h .gaps ≡ g .gaps
 
--- opened with the settings g, the state is s and the room holds l after the accepted readings rs, newest first
-pub data Reached (g : Settings) : List Reading → State → List ℤ → Type 0 where
+-- opened with what g names, the state is s and the room holds l after the accepted readings rs, newest first
+pub data Reached (g : Opening) : List Reading → State → List ℤ → Type 0 where
   -- opened empty, in any room
   opens : (l : List ℤ) {m : List ℤ} {s : State} → opened g l ≡ (accepted s, m) → Reached g [] s m
   -- an accepted reading, any signed 32-bit number
@@ -32,8 +33,8 @@ pub data Reached (g : Settings) : List Reading → State → List ℤ → Type 0
   -- a refused call: the caller goes on with the state that was given and the room that was left
   next-refused : {rs : List Reading} {s : State} {l m : List ℤ} {r : Refusal} (v : ℤ) → Reached g rs s l → nextOutcome s l v ≡ (refused r, m) → Reached g rs s m
   late-refused : {rs : List Reading} {s : State} {l m : List ℤ} {r : Refusal} (tick : ℕ) (v : ℤ) → Reached g rs s l → lateOutcome s l tick v ≡ (refused r, m) → Reached g rs s m
-  open-refused : {rs : List Reading} {s : State} {l m : List ℤ} {r : Refusal} (h : Settings) → Reached g rs s l → opened h l ≡ (refused r, m) → Reached g rs s m
-  load-refused : {rs : List Reading} {s : State} {l m : List ℤ} {r : Refusal} (h : Settings) (file : List ℕ) → Reached g rs s l → loaded h file l ≡ (refused r, m) → Reached g rs s m
-  -- saved by the call into any output, and the bytes that it wrote loaded into any room with the same settings, in order with any K
-  loads : {rs : List Reading} {s t : State} {l m : List ℤ} {written : List ℕ} {n : ℕ} (out : List ℕ) (room : List ℤ) (h : Settings) → SameSettings h g → Reached g rs s l
+  open-refused : {rs : List Reading} {s : State} {l m : List ℤ} {r : Refusal} (h : Opening) → Reached g rs s l → opened h l ≡ (refused r, m) → Reached g rs s m
+  load-refused : {rs : List Reading} {s : State} {l m : List ℤ} {r : Refusal} (h : Opening) (file : List ℕ) → Reached g rs s l → loaded h file l ≡ (refused r, m) → Reached g rs s m
+  -- saved by the call into any output, and the bytes that it wrote loaded into any room with the same settings
+  loads : {rs : List Reading} {s t : State} {l m : List ℤ} {written : List ℕ} {n : ℕ} (out : List ℕ) (room : List ℤ) (h : Opening) → SameSettings h g → Reached g rs s l
       → saveOutcome s l out ≡ (Written.Buckets n, written) → loaded h (take (16 * n) written) room ≡ (accepted t, m) → Reached g rs t m

@@ -5,6 +5,7 @@ use lines::byte;
 use lines::line_ended;
 use listing::Feeding;
 use listing::Stage;
+use rule::Size;
 use trace::Answer;
 use trace::Trace;
 
@@ -15,7 +16,7 @@ const DEFAULT_STEPS: usize = 32;
 pub fn begin(room: &mut [i64]) -> Feeding
     ensures { λ r. ⌜ (r, now (room .exit)) ≡ fresh (now (room .entry)) ⌝ }
 {
-    let last = Trace::open(settings::in_order(DEFAULT_STEPS), &mut *room);
+    let last = Trace::open(openings::in_order(Size::Steps(DEFAULT_STEPS)), &mut *room);
     Feeding {
         last,
         stage: Stage::Nothing,

@@ -5,7 +5,7 @@ use mathlib.Core.Bool.{true, false, false≢true}
 use mathlib.Core.List.{List, [], _∷_}
 use native.Mathlib.Omega.{arith}
 use borrow.Author.Tests.{leb-true, le-leb, lt-leb}
-use lib.Dec.{leb, ltb}
+use lib.Dec.{ltb}
 use lib.IntN.{ℤ}
 use Rattle.rule.specs.declared.Kind.{Kind}
 use Rattle.rule.specs.declared.Kind.the-variants.{InOrder, Late}
@@ -13,13 +13,14 @@ use Rattle.rule.specs.declared.Refusal.{Refusal}
 use Rattle.rule.specs.declared.State.{State}
 use Rattle.rule.specs.Calls.{Verdict, checked, isHeld, late, lateChecks}
 use Rattle.rule.specs.Numbers.{most, ticks}
-use Rattle.rule.specs.Room.{gapsBounded, gapsGood, runsAllowed, sound, tableOf}
+use Rattle.rule.specs.Room.{gapsGood, runsAllowed, sound, tableOf}
 use Rattle.rule.specs.Rules.{ruled}
 use Rattle.rule.specs.Table.{Table, holders, holding, insert, runs, single}
-use Rattle.rule.proofs.Ruling.{Ruled, and-right, facts-ruled, late-ruled}
+use Rattle.rule.proofs.Ruling.{Ruled, facts-ruled, late-ruled}
 use Rattle.rule.proofs.Tables.{one}
 use Rattle.rooms.specs.Slots.{Filled}
 use Rattle.rooms.specs.Steps.{Placed, position}
+use Rattle.rooms.proofs.Bounds.{bounds}
 use Rattle.rooms.proofs.Laying.{length-slots}
 use Rattle.rooms.proofs.Placing.{held-counts, insert-at, place-within}
 use Rattle.rooms.proofs.Sounding.{Facts, sound-facts, sound-filled, sound-ordered}
@@ -29,9 +30,9 @@ use Rattle.rooms.specs.Steps.{Ready, with}
 -- ---- by the kind
 
 late-few : (k : Kind) (gaps n : ℕ) → late k ≡ true → gapsGood k gaps ≡ true → runsAllowed k gaps n ≡ true → n ≤ most
-unfolding late gapsGood gapsBounded runsAllowed
+unfolding late gapsGood runsAllowed
 late-few InOrder gaps n e g h = absurd (false≢true e)
-late-few Late gaps n e g h = omega (arith, leb-true n gaps h, leb-true gaps most (and-right (leb 1 gaps) (leb gaps most) g))
+late-few Late gaps n e g h = omega (arith, leb-true n gaps h, bounds most gaps g .1)
 
 few-allowed : (k : Kind) (gaps n : ℕ) → n ≤ gaps → runsAllowed k gaps n ≡ true
 unfolding runsAllowed

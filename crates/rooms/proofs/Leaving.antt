@@ -10,6 +10,7 @@ use mir.Val.{SFits}
 use Rattle.rule.specs.declared.Kind.{Kind}
 use Rattle.rule.specs.declared.Kind.the-variants.{InOrder, Late}
 use Rattle.rule.specs.declared.Refusal.{Refusal}
+use Rattle.rule.specs.declared.Opening.{Opening}
 use Rattle.rule.specs.declared.Settings.{Settings}
 use Rattle.rule.specs.declared.State.{State}
 use Rattle.rule.specs.Calls.{Verdict, accepted, admitted, isHeld, kept, late, lateOutcome, lateVerdict, nextOutcome, nextVerdict, opened, refused, traced}
@@ -42,13 +43,13 @@ none-allowed Late gaps = lib.Dec.leb·zero gaps
 
 empty-leaves : (s : Settings) (l : List ℤ) → Granted s l → Leaves s l (accepted [])
 unfolding traced LeftBy runs Ruled Fitted
-empty-leaves s l g = facts-sound _ _ (laid-facts s [] l (g .steps) (g .gaps) (none-allowed (s .kind) (s .gaps)) (g .long) (omega arith) tt tt)
+empty-leaves s l g = facts-sound _ _ (laid-facts s [] l (g .base) (g .gaps) (none-allowed (s .kind) (s .gaps)) (g .long) (omega arith) tt tt)
 
-pub open-either : (s : Settings) (l : List ℤ) (P : Verdict Table → Type 0) → ((r : Refusal) → P (refused r)) → (Granted (kept s) l → P (accepted [])) → P (admitted (kept s) l (accepted []))
-open-either s l = past-admission (kept s) l (accepted [])
+pub open-either : (o : Opening) (l : List ℤ) (P : Verdict Table → Type 0) → ((r : Refusal) → P (refused r)) → (Granted (kept o) l → P (accepted [])) → P (admitted o l (accepted []))
+open-either o l = past-admission o l (accepted [])
 
-pub open-leaves : (s : Settings) (l : List ℤ) → LeavesSound (opened s l)
-open-leaves s l = open-either s l (Leaves (kept s) l) (refused-leaves (kept s) l) (empty-leaves (kept s) l)
+pub open-leaves : (o : Opening) (l : List ℤ) → LeavesSound (opened o l)
+open-leaves o l = open-either o l (Leaves (kept o) l) (refused-leaves (kept o) l) (empty-leaves (kept o) l)
 
 -- a reading that is ready to be taken leaves a sound trace
 pub taken-leaves : (s : State) (l : List ℤ) (at k tick : ℕ) (v : ℤ) → Ready s l at k tick v → SFits w32 v → tick < word → Leaves (s .settings) l (accepted (accept (s .settings) (tableOf s l) tick v))

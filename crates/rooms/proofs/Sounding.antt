@@ -15,13 +15,13 @@ use Rattle.rule.specs.declared.Settings.{Settings}
 use Rattle.rule.specs.declared.State.{State}
 use Rattle.rule.specs.Bucket.{end}
 use Rattle.rule.specs.Calls.{stateOf}
-use Rattle.rule.specs.Numbers.{slotWidth, ticks, word}
-use Rattle.rule.specs.Room.{allOf, allZero, clauses, flat, gapsGood, laid, ranged, restZero, roomy, runsAllowed, slots, sound, stepsGood, tableOf, zeros}
+use Rattle.rule.specs.Numbers.{mostBase, slotWidth, ticks, word}
+use Rattle.rule.specs.Room.{allOf, allZero, baseGood, clauses, flat, gapsGood, laid, ranged, restZero, roomy, runsAllowed, slots, sound, tableOf, zeros}
 use Rattle.rule.specs.Rules.{equal, ruled}
 use Rattle.rule.specs.Table.{Table, Ordered, cheapest, limit, limitOver, merge, mergeOf, needed, readings, runs, settle, Choice, nothing, pair}
 use Rattle.rule.proofs.Merging.{Enough, merge-readings, settle-keeps, settle-length, settle-runs}
 use Rattle.rule.proofs.Ruling.{Ruled, and-left, and-right, facts-ruled, in-order-runs, ordered-readings, ruled-end, ruled-facts, ruled-ordered, settle-ruled}
-use Rattle.rooms.proofs.Bounds.{limit-gaps, needed-small, steps-bounds}
+use Rattle.rooms.proofs.Bounds.{bounds, limit-gaps, needed-small}
 use Rattle.rooms.specs.Slots.{Filled}
 use Rattle.rooms.specs.Steps.{Settling}
 use Rattle.rule.proofs.Fitting.{Fitted, fitted-merge}
@@ -29,7 +29,7 @@ use Rattle.rooms.proofs.Fitting.{filled-laid}
 use Rattle.rooms.proofs.Laying.{laid-more, length-flat, length-laid, slots-laid}
 
 pub record Facts (s : State) (l : List ℤ) : Type 0 where
-  pub steps-good : stepsGood (s .settings) ≡ true
+  pub base-good : baseGood (s .settings .base) ≡ true
   pub gaps-good : gapsGood (s .settings .kind) (s .settings .gaps) ≡ true
   pub allowed : runsAllowed (s .settings .kind) (s .settings .gaps) (s .runs) ≡ true
   pub long : slotWidth * needed (s .settings) ≤ length l
@@ -51,7 +51,7 @@ pub sound-facts : (s : State) (l : List ℤ) → sound s l ≡ true → Facts s 
 unfolding sound clauses roomy ruled
 sound-facts s l e =
     record {
-      steps-good = all-at (clauses s l) 0 e;
+      base-good = all-at (clauses s l) 0 e;
       gaps-good = all-at (clauses s l) 1 e;
       allowed = all-at (clauses s l) 2 e;
       long = leb-true (slotWidth * needed (s .settings)) (length l) (all-at (clauses s l) 3 e);
@@ -67,7 +67,7 @@ pub facts-sound : (s : State) (l : List ℤ) → Facts s l → sound s l ≡ tru
 unfolding sound clauses roomy ruled allOf
 facts-sound s l f =
     rw (
-      f .steps-good,
+      f .base-good,
       f .gaps-good,
       f .allowed,
       le-leb (slotWidth * needed (s .settings)) (length l) (f .long),
@@ -88,7 +88,7 @@ zero-part (suc a) b (z ∷ l) e =
 
 module _ (s : State) (l : List ℤ) (f : Facts s l) where
   pub sound-filled : Filled l (s .used)
-  sound-filled = record { there = omega (arith, f .long, f .few, limit-gaps (s .settings .kind) (2 * s .settings .steps) (s .settings .gaps) (s .runs) (f .allowed)); ranges = f .ranges }
+  sound-filled = record { there = omega (arith, f .long, f .few, limit-gaps (s .settings .kind) (s .settings .base) (s .settings .gaps) (s .runs) (f .allowed)); ranges = f .ranges }
 
   pub sound-ordered : Ordered 0 (tableOf s l)
   sound-ordered = ruled-ordered (s .settings .kind) 0 (tableOf s l) (f .rules)
@@ -97,7 +97,7 @@ module _ (s : State) (l : List ℤ) (f : Facts s l) where
   sound-readings = omega (arith, ordered-readings 0 (tableOf s l) sound-ordered, ruled-end (s .settings .kind) 0 (tableOf s l) (omega arith) (f .rules))
 
   pub used-needed : suc (s .used) ≤ needed (s .settings)
-  used-needed = omega (arith, f .few, limit-gaps (s .settings .kind) (2 * s .settings .steps) (s .settings .gaps) (s .runs) (f .allowed))
+  used-needed = omega (arith, f .few, limit-gaps (s .settings .kind) (s .settings .base) (s .settings .gaps) (s .runs) (f .allowed))
 
   -- with the unused slots zeros, clearing one of them is clearing all
   pub laid-needed : (w : Table) → length w ≤ suc (s .used) → laid (suc (s .used)) w l ≡ laid (needed (s .settings)) w l
@@ -126,14 +126,14 @@ rest-laid s w l =
     rw (drop-at (flat w) (zeros k ++ drop (slotWidth * needed s) l) (slotWidth * length w) (length-flat w), take-at (zeros k) (drop (slotWidth * needed s) l) k (length-zeros k)) (all-zeros k)
 
 -- a table that meets what a sound state asks, laid
-pub laid-facts : (s : Settings) (w : Table) (l : List ℤ) → stepsGood s ≡ true → gapsGood (s .kind) (s .gaps) ≡ true → runsAllowed (s .kind) (s .gaps) (runs w) ≡ true
+pub laid-facts : (s : Settings) (w : Table) (l : List ℤ) → baseGood (s .base) ≡ true → gapsGood (s .kind) (s .gaps) ≡ true → runsAllowed (s .kind) (s .gaps) (runs w) ≡ true
     → slotWidth * needed s ≤ length l → length w ≤ limit s (runs w) → Fitted w → Ruled (s .kind) 0 w → Facts (stateOf s w) (laid (needed s) w l)
-laid-facts s w l steps gaps allowed long few fitted rules =
+laid-facts s w l base gaps allowed long few fitted rules =
     let n : ℕ = needed s in
-    let within : length w ≤ n = omega (arith, limit-gaps (s .kind) (2 * s .steps) (s .gaps) (runs w) allowed) in
+    let within : length w ≤ n = omega (arith, limit-gaps (s .kind) (s .base) (s .gaps) (runs w) allowed) in
     let same : slots (laid n w l) 0 (length w) ≡ w = slots-laid n w l in
     record {
-      steps-good = steps;
+      base-good = base;
       gaps-good = gaps;
       allowed = allowed;
       long = omega (arith, length-laid n w l within long);
@@ -173,7 +173,7 @@ enough-runs Late base t h r = omega arith
 module _ (s : State) (l : List ℤ) (f : Facts s l) (u : Table) (longer : length u ≡ suc (s .used)) (fitted : Fitted u)
     (rules : Ruled (s .settings .kind) 0 u) (allowed : runsAllowed (s .settings .kind) (s .settings .gaps) (runs u) ≡ true) where
   pub enough : Enough (s .settings) u
-  enough = enough-runs (s .settings .kind) (2 * s .settings .steps) u (omega (arith, steps-bounds (s .settings) (f .steps-good))) rules
+  enough = enough-runs (s .settings .kind) (s .settings .base) u (omega (arith, bounds mostBase (s .settings .base) (f .base-good))) rules
 
   pub counted : readings u < word
   counted = omega (arith, ordered-readings 0 u (ruled-ordered (s .settings .kind) 0 u rules), ruled-end (s .settings .kind) 0 u (omega arith) rules)
@@ -186,7 +186,7 @@ module _ (s : State) (l : List ℤ) (f : Facts s l) (u : Table) (longer : length
         count = rw same counted;
         truth = rw same;
         enough = enough;
-        small = omega (arith, needed-small (s .settings) (f .steps-good) (f .gaps-good), limit-gaps (s .settings .kind) (2 * s .settings .steps) (s .settings .gaps) (runs u) allowed);
+        small = omega (arith, needed-small (s .settings) (f .base-good) (f .gaps-good), limit-gaps (s .settings .kind) (s .settings .base) (s .settings .gaps) (runs u) allowed);
       }
 
   -- what a sound state says of the settled buckets, laid
@@ -194,7 +194,7 @@ module _ (s : State) (l : List ℤ) (f : Facts s l) (u : Table) (longer : length
   settled-facts =
       let settled : length (settle (s .settings) u) ≡ min (length u) (limit (s .settings) (runs u)) = settle-length (s .settings) (length u) u (omega arith) enough in
       let same-runs : runs (settle (s .settings) u) ≡ runs u = settle-runs (s .settings) u enough in
-      laid-facts (s .settings) (settle (s .settings) u) l (f .steps-good) (f .gaps-good) (rw same-runs allowed) (f .long) (rw same-runs (omega arith))
+      laid-facts (s .settings) (settle (s .settings) u) l (f .base-good) (f .gaps-good) (rw same-runs allowed) (f .long) (rw same-runs (omega arith))
       (settle-fitted (s .settings) u enough fitted counted) (settle-ruled (s .settings) (s .settings .kind) 0 u enough rules)
 
   pub settled-sound : sound (stateOf (s .settings) (settle (s .settings) u)) (laid (needed (s .settings)) (settle (s .settings) u) l) ≡ true

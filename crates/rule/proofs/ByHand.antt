@@ -3,13 +3,13 @@ use mathlib.Core.Path.{refl}
 use Rattle.rule.specs.Bucket.{distance, larger, lesser, middle}
 use Rattle.rule.specs.Table.{cheaper, cheapest, choice, holding, holds, insert, lastEnd, limitOver, merge, mergeAt, mergeOf, readings, runs, runsAfter, settle, settleIn, accept, worst}
 use Rattle.rule.specs.Rules.{broken, equal, faultAt, firstFalse, firstFault, follows, isWhole, ruled, rules}
-use Rattle.rule.specs.Room.{allOf, allZero, clauses, flat, gapsBounded, gapsGood, laid, ranged, restZero, roomy, runsAllowed, slot, slotRanged, slots, sound, stepsGood, within, zeros}
+use Rattle.rule.specs.Room.{allOf, allZero, bounded, clauses, flat, gapsGood, laid, ranged, restZero, roomy, runsAllowed, slot, slotRanged, slots, sound, within, zeros}
 use Rattle.rule.specs.Bytes.{bits, bytes, reading, recordAt, saved, savedRecord, wordAt}
-use Rattle.rule.specs.Calls.{admitted, checked, gapsKept, isHeld, late, lateVerdict, nextVerdict, traced, writeVerdict, wrote}
+use Rattle.rule.specs.Calls.{admitted, baseOf, checked, gapsKept, isHeld, late, lateVerdict, nextVerdict, sizeGood, traced, writeVerdict, wrote}
 use Rattle.rule.specs.ByHand.{ByHand, feed, feedTo, feedLate, feedLateTo, leaves, saves, start, worstTo}
 
 pub by-hand : ByHand
-unfolding distance larger lesser middle cheaper cheapest choice holding holds insert lastEnd limitOver merge mergeAt mergeOf readings runs runsAfter settle settleIn accept worst broken equal faultAt firstFalse firstFault follows isWhole ruled rules allOf allZero clauses flat gapsBounded gapsGood laid ranged restZero roomy runsAllowed slot slotRanged slots sound stepsGood within zeros bits bytes reading recordAt saved savedRecord wordAt admitted gapsKept isHeld late lateVerdict nextVerdict checked traced writeVerdict wrote feed feedTo feedLate feedLateTo leaves saves start worstTo
+unfolding distance larger lesser middle cheaper cheapest choice holding holds insert lastEnd limitOver merge mergeAt mergeOf readings runs runsAfter settle settleIn accept worst broken equal faultAt firstFalse firstFault follows isWhole ruled rules allOf allZero bounded clauses flat gapsGood laid ranged restZero roomy runsAllowed slot slotRanged slots sound within zeros bits bytes reading recordAt saved savedRecord wordAt admitted baseOf gapsKept isHeld late lateVerdict nextVerdict checked sizeGood traced writeVerdict wrote feed feedTo feedLate feedLateTo leaves saves start worstTo
 by-hand =
     record {
       h1 = refl;
@@ -34,4 +34,10 @@ by-hand =
       h12 = refl;
       every-byte = refl;
       every-byte-read = refl;
+      one-step = refl;
+      three-steps = refl;
+      one-and-the-runs = refl;
+      one-and-a-run = refl;
+      no-size = refl;
+      a-size = refl;
     }

@@ -261,5 +261,5 @@ few-merges s tick v t o free h enough =
     let settled : length (settle s u) ≡ min (length u) (limit s (runs u)) = settle-length s (length u) u (omega arith) enough in
     let joins = insert-runs tick v t o free in
     let last = held-once 0 (suc tick) t o in
-    let room = lost-room (s .kind) (2 * s .steps) (runs t) (runs u) (length t) (omega (arith, held-before-once tick t o)) h in
+    let room = lost-room (s .kind) (s .base) (runs t) (runs u) (length t) (omega (arith, held-before-once tick t o)) h in
     omega arith

@@ -6,7 +6,10 @@ use lib.IntN.{ℤ, pos, negsuc}
 use lib.ListN.{replicate}
 use Rattle.rule.specs.declared.Bucket.{Bucket}
 use Rattle.rule.specs.declared.Kind.the-variants.{InOrder, Late}
+use Rattle.rule.specs.declared.Opening.{Opening}
 use Rattle.rule.specs.declared.Settings.{Settings}
+use Rattle.rule.specs.declared.Size.{Size}
+use Rattle.rule.specs.declared.Size.the-variants.{Steps, Base}
 use Rattle.rule.specs.declared.State.{State}
 use Rattle.rule.specs.declared.Refusal.{Refusal}
 use Rattle.rule.specs.declared.Written.{Written}
@@ -16,7 +19,7 @@ use Rattle.rule.specs.Bucket.{level, error}
 use Rattle.rule.specs.Table.{Table, needed, worst}
 use Rattle.rule.specs.Room.{tableOf}
 use Rattle.rule.specs.Bytes.{recordAt, savedRecord}
-use Rattle.rule.specs.Calls.{Verdict, refused, accepted, opened, nextOutcome, lateOutcome, saveOutcome}
+use Rattle.rule.specs.Calls.{Verdict, refused, accepted, kept, opened, nextOutcome, lateOutcome, saveOutcome}
 
 -- a trace between two calls: the last answer, and the room
 abbrev pub Now : Type 0
@@ -26,15 +29,22 @@ Now = Verdict State × List ℤ
 abbrev pub Named : Type 0
 Named = ℕ × ℤ
 
-abbrev pub inOrder : ℕ → Settings
-inOrder b = record { kind = InOrder; steps = b; gaps = 0 }
+abbrev pub inOrder : Size → Opening
+inOrder z = record { kind = InOrder; size = z; gaps = 0 }
 
-abbrev pub gappy : ℕ → ℕ → Settings
-gappy b k = record { kind = Late; steps = b; gaps = k }
+abbrev pub gappy : Size → ℕ → Opening
+gappy z k = record { kind = Late; size = z; gaps = k }
+
+-- what is kept of them
+abbrev pub ofBase : ℕ → Settings
+ofBase c = record { kind = InOrder; base = c; gaps = 0 }
+
+abbrev pub gappyBase : ℕ → ℕ → Settings
+gappyBase c k = record { kind = Late; base = c; gaps = k }
 
 -- opened in a room of sevens
-unfoldable pub start : Settings → Now
-start s = opened s (replicate (suc (slotWidth * needed s)) (pos 7))
+unfoldable pub start : Opening → Now
+start o = opened o (replicate (suc (slotWidth * needed (kept o))) (pos 7))
 
 -- the readings fed one by one; a refusal ends it
 unfoldable pub feedTo : List ℤ → Verdict State → List ℤ → Now
@@ -82,11 +92,11 @@ saves n out = savesTo (n .0)
 
 -- the late trace of the listing, and it with one reading more
 abbrev pub listed : Now
-listed = leaves (gappy 1 2) (bucket 0 3 (pos 1) (pos 4) ∷ bucket 3 2 (pos 8) (pos 9) ∷ bucket 5 2 (pos 2) (pos 3) ∷ []) 3 1 7 2
+listed = leaves (gappyBase 2 2) (bucket 0 3 (pos 1) (pos 4) ∷ bucket 3 2 (pos 8) (pos 9) ∷ bucket 5 2 (pos 2) (pos 3) ∷ []) 3 1 7 2
 
 abbrev pub lengthened : Now
 lengthened =
-    leaves (gappy 1 2)
+    leaves (gappyBase 2 2)
     (bucket 0 3 (pos 1) (pos 4) ∷ bucket 3 2 (pos 8) (pos 9) ∷ bucket 5 2 (pos 2) (pos 3) ∷ bucket 8 1 (pos 0) (pos 0) ∷ []) 4 2 8 1
 
 -- 0x00010203, 0x00040506, minus 0x00010203, 0x01020304
@@ -97,26 +107,36 @@ abbrev pub unlikeBytes : List ℕ
 unlikeBytes = 3 ∷ 2 ∷ 1 ∷ 0 ∷ 6 ∷ 5 ∷ 4 ∷ 0 ∷ 253 ∷ 253 ∷ 254 ∷ 255 ∷ 4 ∷ 3 ∷ 2 ∷ 1 ∷ []
 
 pub record ByHand : Type 0 where
-  pub h1 : start (inOrder 1) ≡ leaves (inOrder 1) [] 0 0 0 3
-  pub h1-worst : worstOf (start (inOrder 1)) ≡ 0
-  pub h2 : feed (pos 1 ∷ pos 4 ∷ pos 2 ∷ pos 9 ∷ []) (start (inOrder 1)) ≡ leaves (inOrder 1) (bucket 0 3 (pos 1) (pos 4) ∷ bucket 3 1 (pos 9) (pos 9) ∷ []) 2 1 4 1
-  pub h3 : feed (pos 0 ∷ pos 1 ∷ pos 2 ∷ []) (start (inOrder 1)) ≡ leaves (inOrder 1) (bucket 0 2 (pos 0) (pos 1) ∷ bucket 2 1 (pos 2) (pos 2) ∷ []) 2 1 3 1
-  pub h4 : feed (pos 5 ∷ pos 5 ∷ pos 5 ∷ []) (start (inOrder 1)) ≡ leaves (inOrder 1) (bucket 0 2 (pos 5) (pos 5) ∷ bucket 2 1 (pos 5) (pos 5) ∷ []) 2 1 3 1
-  pub h5 : feed (pos 0 ∷ pos 5 ∷ pos 9 ∷ pos 14 ∷ pos 18 ∷ []) (start (inOrder 2)) ≡ leaves (inOrder 2) (bucket 0 1 (pos 0) (pos 0) ∷ bucket 1 2 (pos 5) (pos 9) ∷ bucket 3 1 (pos 14) (pos 14) ∷ bucket 4 1 (pos 18) (pos 18) ∷ []) 4 1 5 1
-  pub h5-worst : worstOf (feed (pos 0 ∷ pos 5 ∷ pos 9 ∷ pos 14 ∷ pos 18 ∷ []) (start (inOrder 2))) ≡ 2
+  pub h1 : start (inOrder (Steps 1)) ≡ leaves (ofBase 2) [] 0 0 0 3
+  pub h1-worst : worstOf (start (inOrder (Steps 1))) ≡ 0
+  pub h2 : feed (pos 1 ∷ pos 4 ∷ pos 2 ∷ pos 9 ∷ []) (start (inOrder (Steps 1))) ≡ leaves (ofBase 2) (bucket 0 3 (pos 1) (pos 4) ∷ bucket 3 1 (pos 9) (pos 9) ∷ []) 2 1 4 1
+  pub h3 : feed (pos 0 ∷ pos 1 ∷ pos 2 ∷ []) (start (inOrder (Steps 1))) ≡ leaves (ofBase 2) (bucket 0 2 (pos 0) (pos 1) ∷ bucket 2 1 (pos 2) (pos 2) ∷ []) 2 1 3 1
+  pub h4 : feed (pos 5 ∷ pos 5 ∷ pos 5 ∷ []) (start (inOrder (Steps 1))) ≡ leaves (ofBase 2) (bucket 0 2 (pos 5) (pos 5) ∷ bucket 2 1 (pos 5) (pos 5) ∷ []) 2 1 3 1
+  pub h5 : feed (pos 0 ∷ pos 5 ∷ pos 9 ∷ pos 14 ∷ pos 18 ∷ []) (start (inOrder (Steps 2))) ≡ leaves (ofBase 4) (bucket 0 1 (pos 0) (pos 0) ∷ bucket 1 2 (pos 5) (pos 9) ∷ bucket 3 1 (pos 14) (pos 14) ∷ bucket 4 1 (pos 18) (pos 18) ∷ []) 4 1 5 1
+  pub h5-worst : worstOf (feed (pos 0 ∷ pos 5 ∷ pos 9 ∷ pos 14 ∷ pos 18 ∷ []) (start (inOrder (Steps 2)))) ≡ 2
   pub h6-level : level (bucket 0 2 (negsuc 2) (pos 0)) ≡ negsuc 1
   pub h6-error : error (bucket 0 2 (negsuc 2) (pos 0)) ≡ 2
   pub h7-level : level (bucket 0 2 (negsuc 2147483647) (pos 2147483647)) ≡ negsuc 0
   pub h7-error : error (bucket 0 2 (negsuc 2147483647) (pos 2147483647)) ≡ 2147483648
-  pub h8 : feedLate ((0, pos 1) ∷ (1, pos 4) ∷ (2, pos 2) ∷ (3, pos 9) ∷ (6, pos 2) ∷ (5, pos 3) ∷ (4, pos 8) ∷ []) (start (gappy 1 2)) ≡ listed
+  pub h8 : feedLate ((0, pos 1) ∷ (1, pos 4) ∷ (2, pos 2) ∷ (3, pos 9) ∷ (6, pos 2) ∷ (5, pos 3) ∷ (4, pos 8) ∷ []) (start (gappy (Steps 1) 2)) ≡ listed
   pub h8-worst : worstOf listed ≡ 2
-  pub h9 : feedLate ((0, pos 1) ∷ (2, pos 5) ∷ (1, pos 9) ∷ []) (start (gappy 1 2)) ≡ leaves (gappy 1 2) (bucket 0 1 (pos 1) (pos 1) ∷ bucket 1 1 (pos 9) (pos 9) ∷ bucket 2 1 (pos 5) (pos 5) ∷ []) 3 1 3 2
+  pub h9 : feedLate ((0, pos 1) ∷ (2, pos 5) ∷ (1, pos 9) ∷ []) (start (gappy (Steps 1) 2)) ≡ leaves (gappyBase 2 2) (bucket 0 1 (pos 1) (pos 1) ∷ bucket 1 1 (pos 9) (pos 9) ∷ bucket 2 1 (pos 5) (pos 5) ∷ []) 3 1 3 2
   pub h10 : feedLate ((5, pos 7) ∷ []) listed ≡ (refused Refusal.Taken, listed .1)
   pub h10-number : number Refusal.Taken ≡ 11
   pub h11 : feedLate ((8, pos 0) ∷ []) listed ≡ lengthened
   pub h11-refused : feedLate ((10, pos 0) ∷ []) lengthened ≡ (refused Refusal.Runs, lengthened .1)
   pub h11-number : number Refusal.Runs ≡ 9
-  pub h12 : saves (feedLate ((3, negsuc 1) ∷ []) (start (gappy 1 1))) (replicate 17 7) ≡ (Written.Buckets 1, 3 ∷ 0 ∷ 0 ∷ 0 ∷ 1 ∷ 0 ∷ 0 ∷ 0 ∷ 254 ∷ 255 ∷ 255 ∷ 255 ∷ 254 ∷ 255 ∷ 255 ∷ 255 ∷ 7 ∷ [])
+  pub h12 : saves (feedLate ((3, negsuc 1) ∷ []) (start (gappy (Steps 1) 1))) (replicate 17 7) ≡ (Written.Buckets 1, 3 ∷ 0 ∷ 0 ∷ 0 ∷ 1 ∷ 0 ∷ 0 ∷ 0 ∷ 254 ∷ 255 ∷ 255 ∷ 255 ∷ 254 ∷ 255 ∷ 255 ∷ 255 ∷ 7 ∷ [])
   -- beyond document 01's own: a record in which each byte tells its place, so that no two fields or bytes can be exchanged
   pub every-byte : savedRecord unlike ≡ unlikeBytes
   pub every-byte-read : recordAt unlikeBytes 0 ≡ unlike
+  -- odd tables: C is 1 and 3 in order, and 1 late with two runs and then one
+  pub one-step : feed (negsuc 1 ∷ negsuc 5 ∷ []) (start (inOrder (Base 1))) ≡ leaves (ofBase 1) (bucket 0 2 (negsuc 5) (negsuc 1) ∷ []) 1 1 2 1
+  pub three-steps : feed (pos 7 ∷ pos 0 ∷ negsuc 6 ∷ pos 0 ∷ pos 3 ∷ pos 9 ∷ []) (start (inOrder (Base 3)))
+      ≡ leaves (ofBase 3) (bucket 0 2 (pos 0) (pos 7) ∷ bucket 2 1 (negsuc 6) (negsuc 6) ∷ bucket 3 3 (pos 0) (pos 9) ∷ []) 3 1 6 1
+  pub one-and-the-runs : feedLate ((0, pos 1) ∷ (2, pos 5) ∷ []) (start (gappy (Base 1) 2)) ≡ leaves (gappyBase 1 2) (bucket 0 1 (pos 1) (pos 1) ∷ bucket 2 1 (pos 5) (pos 5) ∷ []) 2 2 2 2
+  pub one-and-a-run : feedLate ((0, pos 1) ∷ (2, pos 5) ∷ (1, pos 9) ∷ []) (start (gappy (Base 1) 2)) ≡ leaves (gappyBase 1 2) (bucket 0 1 (pos 1) (pos 1) ∷ bucket 1 2 (pos 5) (pos 9) ∷ []) 2 1 3 2
+  -- B and C at their bounds, and a B that is good in 64 bits once it is doubled: in an empty room what is not refused by 1 is refused by 3
+  pub no-size : opened (inOrder (Steps 0)) [] ∷ opened (inOrder (Steps 257)) [] ∷ opened (inOrder (Base 0)) [] ∷ opened (inOrder (Base 513)) [] ∷ opened (inOrder (Steps 9223372036854775809)) [] ∷ []
+      ≡ replicate 5 (refused Refusal.Steps, [])
+  pub a-size : opened (inOrder (Steps 1)) [] ∷ opened (inOrder (Steps 256)) [] ∷ opened (inOrder (Base 1)) [] ∷ opened (inOrder (Base 512)) [] ∷ [] ≡ replicate 4 (refused Refusal.Room, [])

@@ -9,18 +9,21 @@ use lib.ListN.{length, drop}
 use Rattle.rule.specs.declared.Bucket.{Bucket}
 use Rattle.rule.specs.declared.Kind.{Kind}
 use Rattle.rule.specs.declared.Kind.the-variants.{InOrder, Late}
+use Rattle.rule.specs.declared.Opening.{Opening}
 use Rattle.rule.specs.declared.Settings.{Settings}
+use Rattle.rule.specs.declared.Size.{Size}
+use Rattle.rule.specs.declared.Size.the-variants.{Steps, Base}
 use Rattle.rule.specs.declared.State.{State}
 use Rattle.rule.specs.declared.Refusal.{Refusal}
 use Rattle.rule.specs.declared.Found.{Found}
 use Rattle.rule.specs.declared.Measured.{Measured}
 use Rattle.rule.specs.declared.Written.{Written}
 use Rattle.rule.specs.declared.Tally.{Tally}
-use Rattle.rule.specs.Numbers.{ticks, recordWidth, tallyMost}
+use Rattle.rule.specs.Numbers.{most, ticks, recordWidth, tallyMost}
 use Rattle.rule.specs.Bucket.{level, error}
 use Rattle.rule.specs.Table.{Table, accept, holding, insert, limit, needed, nextTick, readings, runs, single, worst}
 use Rattle.rule.specs.Rules.{firstFault, placeOr, ruled}
-use Rattle.rule.specs.Room.{gapsGood, laid, roomy, runsAllowed, sound, stepsGood, tableOf}
+use Rattle.rule.specs.Room.{baseGood, bounded, gapsGood, laid, roomy, runsAllowed, sound, tableOf}
 use Rattle.rule.specs.Bytes.{recordsOf, saved}
 
 -- ---- a refusal, or what was asked
@@ -66,22 +69,33 @@ unfoldable pub gapsKept : Kind → ℕ → ℕ
 gapsKept InOrder k = 0
 gapsKept Late k = k
 
-abbrev pub kept : Settings → Settings
-kept s = record { kind = s .kind; steps = s .steps; gaps = gapsKept (s .kind) (s .gaps) }
+-- the base limit that is named: B stands for 2B
+unfoldable pub baseOf : Size → ℕ
+baseOf (Steps b) = 2 * b
+baseOf (Base c) = c
+
+-- what the state keeps of an opening
+abbrev pub kept : Opening → Settings
+kept o = record { kind = o .kind; base = baseOf (o .size); gaps = gapsKept (o .kind) (o .gaps) }
 
 -- ---- open: 1, 2, 3
 
--- what open and load ask of settings and room, before they go on
-unfoldable pub admitted : Settings → List ℤ → Verdict Table → Verdict Table
-admitted s l v =
+-- B is 1 to 256, C is 1 to 512
+unfoldable pub sizeGood : Size → Bool
+sizeGood (Steps b) = bounded most b
+sizeGood (Base c) = baseGood c
+
+-- what open and load ask of what is named and of the room, before they go on
+unfoldable pub admitted : Opening → List ℤ → Verdict Table → Verdict Table
+admitted o l v =
     checked
-    ((not (stepsGood s), Refusal.Steps)
-    ∷ (not (gapsGood (s .kind) (s .gaps)), Refusal.Gaps)
-    ∷ (not (roomy s l), Refusal.Room)
+    ((not (sizeGood (o .size)), Refusal.Steps)
+    ∷ (not (gapsGood (kept o .kind) (kept o .gaps)), Refusal.Gaps)
+    ∷ (not (roomy (kept o) l), Refusal.Room)
     ∷ []) v
 
-abbrev pub opened : Settings → List ℤ → Verdict State × List ℤ
-opened s l = traced (kept s) l (admitted (kept s) l (accepted []))
+abbrev pub opened : Opening → List ℤ → Verdict State × List ℤ
+opened o l = traced (kept o) l (admitted o l (accepted []))
 
 -- ---- readings: 4, 5, 6, 11, 9
 
@@ -174,11 +188,11 @@ fileVerdict s file =
     ∷ (ltb (limit s (runs (recordsOf file))) (length (recordsOf file)), Refusal.Overfull)
     ∷ []) (accepted (recordsOf file))
 
-abbrev pub loadVerdict : Settings → List ℕ → List ℤ → Verdict Table
-loadVerdict s file l = admitted s l (fileVerdict s file)
+abbrev pub loadVerdict : Opening → List ℕ → List ℤ → Verdict Table
+loadVerdict o file l = admitted o l (fileVerdict (kept o) file)
 
-abbrev pub loaded : Settings → List ℕ → List ℤ → Verdict State × List ℤ
-loaded s file l = traced (kept s) l (loadVerdict (kept s) file l)
+abbrev pub loaded : Opening → List ℕ → List ℤ → Verdict State × List ℤ
+loaded o file l = traced (kept o) l (loadVerdict o file l)
 
 -- ---- the tally
 

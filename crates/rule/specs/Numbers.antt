@@ -9,6 +9,10 @@ ticks = 16777216
 abbrev pub most : ℕ
 most = 256
 
+-- the base limit C is 1 to this
+abbrev pub mostBase : ℕ
+mostBase = 512
+
 -- numbers of the room to a slot
 abbrev pub slotWidth : ℕ
 slotWidth = 4

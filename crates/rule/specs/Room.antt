@@ -11,7 +11,7 @@ use Rattle.rule.specs.declared.Kind.{Kind}
 use Rattle.rule.specs.declared.Kind.the-variants.{InOrder, Late}
 use Rattle.rule.specs.declared.Settings.{Settings}
 use Rattle.rule.specs.declared.State.{State}
-use Rattle.rule.specs.Numbers.{most, half, word, slotWidth}
+use Rattle.rule.specs.Numbers.{most, mostBase, half, word, slotWidth}
 use Rattle.rule.specs.Rules.{equal, ruled}
 use Rattle.rule.specs.Table.{Table, limit, needed, readings, runs}
 
@@ -51,17 +51,18 @@ tableOf s l = slots l 0 (s .used)
 
 -- ---- soundness, clause by clause
 
-unfoldable pub stepsGood : Settings → Bool
-stepsGood s = leb 1 (s .steps) && leb (s .steps) most
+-- 1 to the top
+unfoldable pub bounded : ℕ → ℕ → Bool
+bounded top n = leb 1 n && leb n top
 
--- K of a late trace
-unfoldable pub gapsBounded : ℕ → Bool
-gapsBounded k = leb 1 k && leb k most
+-- C is 1 to 512
+abbrev pub baseGood : ℕ → Bool
+baseGood c = bounded mostBase c
 
--- K is 0 in order
+-- K is 0 in order, and 1 to 256 late
 unfoldable pub gapsGood : Kind → ℕ → Bool
 gapsGood InOrder k = eqb k 0
-gapsGood Late k = gapsBounded k
+gapsGood Late k = bounded most k
 
 -- the room has four numbers for each slot needed
 unfoldable pub roomy : Settings → List ℤ → Bool
@@ -105,7 +106,7 @@ allOf (c ∷ l) = c && allOf l
 -- that the slots in use are as many as the state says is that each of them meets the rules and those behind are zeros
 unfoldable pub clauses : State → List ℤ → List Bool
 clauses s l =
-    stepsGood (s .settings)
+    baseGood (s .settings .base)
     ∷ gapsGood (s .settings .kind) (s .settings .gaps)
     ∷ runsAllowed (s .settings .kind) (s .settings .gaps) (s .runs)
     ∷ roomy (s .settings) l

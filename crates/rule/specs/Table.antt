@@ -1,7 +1,7 @@
 -- The table, its buckets in tick order, and the merge rule of document 01.
 -- Source 003 merges where its Algorithm 1 tests "at least" the limit, changes k only while the table is full and has no tie rule; here, as 01 decides:
 -- "more than" the limit, k always the number of runs, and the lowest start.
-use Prim.Native.Nat.{ℕ, zero, suc, _+_, _*_, _≤_, max}
+use Prim.Native.Nat.{ℕ, zero, suc, _+_, _≤_, max}
 use mathlib.Core.Bool.{Bool, cond, _&&_}
 use mathlib.Core.List.{List, [], _∷_}
 use mathlib.Core.Option.{Option, some, none}
@@ -71,11 +71,11 @@ unfoldable pub limitOver : Kind → ℕ → ℕ → ℕ
 limitOver InOrder base k = base
 limitOver Late base k = base + k
 
--- 2B in order, 2B + k late
+-- C in order, C + k late
 abbrev pub limit : Settings → ℕ → ℕ
-limit s k = limitOver (s .kind) (2 * s .steps) k
+limit s k = limitOver (s .kind) (s .base) k
 
--- the slots that a trace needs: 2B + 1 in order, where K is kept as 0, and 2B + K + 1 late
+-- the slots that a trace needs: C + 1 in order, where K is kept as 0, and C + K + 1 late
 abbrev pub needed : Settings → ℕ
 needed s = limit s (s .gaps) + 1
 

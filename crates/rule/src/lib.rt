@@ -4,6 +4,8 @@
 pub const TICKS: usize = 16777216;
 // B and K are 1 to this.
 pub const MOST: usize = 256;
+// The base limit C is 1 to this.
+pub const MOST_BASE: usize = 512;
 // Numbers of a slot: start, count, least, largest.
 pub const SLOT: usize = 4;
 // Bytes of a saved record.
@@ -26,10 +28,23 @@ pub enum Kind {
     Late,
 }
 
-// What a trace is opened or loaded with: its kind, B and K.
+// How many steps a trace may have, as named: B, which stands for a base limit of 2B, or the base limit C itself.
+pub enum Size {
+    Steps(usize),
+    Base(usize),
+}
+
+// What a trace is opened or loaded with: its kind, B or C, and K.
+pub struct Opening {
+    pub kind: Kind,
+    pub size: Size,
+    pub gaps: usize,
+}
+
+// What the state keeps of it: its kind, C and K.
 pub struct Settings {
     pub kind: Kind,
-    pub steps: usize,
+    pub base: usize,
     pub gaps: usize,
 }
 

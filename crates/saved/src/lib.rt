@@ -14,13 +14,12 @@ use admission::admit;
 use faults::Inspected;
 use faults::inspect;
 use moves::clear;
+use rule::Opening;
 use rule::RECORD;
 use rule::Refusal;
 use rule::SLOT;
-use rule::Settings;
 use rule::State;
 use rule::Written;
-use settings::kept;
 use sound::sound;
 use trace::Answer;
 use trace::Trace;
@@ -65,21 +64,20 @@ pub fn save(trace: Trace, room: &[i64], out: &mut [u8]) -> Written
 }
 
 // The trace of a saved file, in the needed slots of the room.
-pub fn load(named: Settings, file: &[u8], room: &mut [i64]) -> Answer
+pub fn load(named: Opening, file: &[u8], room: &mut [i64]) -> Answer
     ensures { λ r. ⌜ (r, now (room .exit)) ≡ answered (loaded named (now (file .entry)) (now (room .entry))) ⌝ }
 {
-    let s = kept(named);
-    match admit(s, &*room) {
+    match admit(named, &*room) {
         Admitted::Refused(r) => Answer::Refused(r),
-        Admitted::Slots(needed) => match inspect(s, file) {
+        Admitted::Granted { settings, slots } => match inspect(settings, file) {
             Inspected::Refused(r) => Answer::Refused(r),
             Inspected::Counts(c) => {
                 let used = file.len() / RECORD;
                 load_slots(file, used, &mut *room);
-                clear(&mut *room, SLOT * used, SLOT * needed);
+                clear(&mut *room, SLOT * used, SLOT * slots);
                 Answer::Accepted(Trace {
                     state: State {
-                        settings: s,
+                        settings,
                         used,
                         runs: c.runs,
                         readings: c.readings,

@@ -8,7 +8,7 @@ use lib.IntN.{ℤ}
 use mir.Syntax.{w32}
 use mir.Val.{SFits}
 use Rattle.rule.specs.declared.Refusal.{Refusal}
-use Rattle.rule.specs.declared.Settings.{Settings}
+use Rattle.rule.specs.declared.Opening.{Opening}
 use Rattle.rule.specs.declared.State.{State}
 use Rattle.rule.specs.Calls.{Verdict, accepted, counted, grown, kept, onward, opened, refused, stateOf, traced}
 use Rattle.rule.specs.Numbers.{tallyMost, ticks, word}
@@ -141,17 +141,17 @@ after-even c e [] = e
 after-even c e (r ∷ rs) = after-even (left c (outcome c r)) (stays c e r) rs
 
 -- an opened trace is empty
-opened-empty : (s : Settings) (l : List ℤ) → onward (stateOf (kept s) []) (opened s l .0) ≡ stateOf (kept s) []
+opened-empty : (o : Opening) (l : List ℤ) → onward (stateOf (kept o) []) (opened o l .0) ≡ stateOf (kept o) []
 unfolding traced onward
-opened-empty s l = open-either s l (λ v. onward (stateOf (kept s) []) (traced (kept s) l v .0) ≡ stateOf (kept s) []) (λ r. refl) (λ g. refl)
+opened-empty o l = open-either o l (λ v. onward (stateOf (kept o) []) (traced (kept o) l v .0) ≡ stateOf (kept o) []) (λ r. refl) (λ g. refl)
 
 -- a sound trace has at most `ticks` readings, so accepted has not stopped
-from-opening : (s : Settings) (l : List ℤ) (st : State) (l′ : List ℤ) → opened s l ≡ (accepted st, l′) → (rs : List Call) → TrueTally (begun st l′) rs
+from-opening : (o : Opening) (l : List ℤ) (st : State) (l′ : List ℤ) → opened o l ≡ (accepted st, l′) → (rs : List Call) → TrueTally (begun st l′) rs
 unfolding LeftBy onward readings
-from-opening s l st l′ e rs =
-    let empty : st ≡ stateOf (kept s) [] = ap (λ (o : Verdict State × List ℤ). onward (stateOf (kept s) []) (o .0)) (sym e) ∙ opened-empty s l in
+from-opening o l st l′ e rs =
+    let empty : st ≡ stateOf (kept o) [] = ap (λ (v : Verdict State × List ℤ). onward (stateOf (kept o) []) (v .0)) (sym e) ∙ opened-empty o l in
     let start : Even (begun st l′) = record {
-      fit = subst LeavesSound e (open-leaves s l);
+      fit = subst LeavesSound e (open-leaves o l);
       each = omega (arith, ap (λ (z : State). z .readings) empty);
     } in
     let even = after-even (begun st l′) start rs in

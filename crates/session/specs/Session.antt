@@ -5,7 +5,7 @@ use mathlib.Core.Bool.{true}
 use mathlib.Core.List.{List, [], _∷_}
 use lib.IntN.{ℤ}
 use lib.ListN.{length}
-use Rattle.rule.specs.declared.Settings.{Settings}
+use Rattle.rule.specs.declared.Opening.{Opening}
 use Rattle.rule.specs.declared.State.{State}
 use Rattle.rule.specs.declared.Tally.{Tally}
 use Rattle.rule.specs.Calls.{Verdict, accepted, counted, lateOutcome, nextOutcome, onward, opened, refused}
@@ -89,4 +89,4 @@ pub record TrueTally (c : Session) (rs : List Call) : Type 0 where
 pub record AlwaysTallied : Type 0 where
   pub any : (c : Session) (rs : List Call) → GrownTally c rs
   -- a fresh tally used with one trace from its opening, each call getting what the last one left, without a load
-  pub fresh : (s : Settings) (l : List ℤ) (st : State) (l′ : List ℤ) → opened s l ≡ (accepted st, l′) → (rs : List Call) → TrueTally (begun st l′) rs
+  pub fresh : (o : Opening) (l : List ℤ) (st : State) (l′ : List ℤ) → opened o l ≡ (accepted st, l′) → (rs : List Call) → TrueTally (begun st l′) rs

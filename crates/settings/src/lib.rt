@@ -1,74 +1,12 @@
 // What is asked of a trace's kind and settings, each thing once. Nothing here but `limit` and `needed` asks anything of its caller.
 ghost use mathlib.Core.Path.{_≡_};
-ghost use mathlib.Core.List.{[]};
 ghost use Prim.Native.Nat.{_<_, _^_};
-ghost use Rattle.rule.specs.declared.Kind.the-variants.{InOrder, Late};
-ghost use Rattle.rule.specs.Calls.{gapsKept, kept, late, stateOf};
-ghost use Rattle.rule.specs.Room.{gapsGood, runsAllowed, stepsGood};
+ghost use Rattle.rule.specs.Calls.{late};
+ghost use Rattle.rule.specs.Room.{bounded, gapsGood, runsAllowed};
 ghost use Rattle.rule.specs.Table.{limit, needed};
 use rule::Kind;
 use rule::MOST;
 use rule::Settings;
-use rule::State;
-
-// ---- made
-
-// A trace in order, of at most 2B steps.
-pub fn in_order(steps: usize) -> Settings
-    ensures { λ r. ⌜ r ≡ record { kind = InOrder; steps = steps; gaps = 0 } ⌝ }
-{
-    Settings {
-        kind: Kind::InOrder,
-        steps,
-        gaps: 0,
-    }
-}
-
-// A late trace of at most K runs.
-pub fn late(steps: usize, gaps: usize) -> Settings
-    ensures { λ r. ⌜ r ≡ record { kind = Late; steps = steps; gaps = gaps } ⌝ }
-{
-    Settings {
-        kind: Kind::Late,
-        steps,
-        gaps,
-    }
-}
-
-pub(crate) fn gaps_kept(kind: Kind, gaps: usize) -> usize
-    ensures { λ r. ⌜ r ≡ gapsKept kind gaps ⌝ }
-{
-    match kind {
-        Kind::InOrder => 0,
-        Kind::Late => gaps,
-    }
-}
-
-// In order a given K is ignored and kept as 0.
-pub fn kept(named: Settings) -> Settings
-    ensures { λ r. ⌜ r ≡ kept named ⌝ }
-{
-    let kind = named.kind;
-    Settings {
-        kind,
-        steps: named.steps,
-        gaps: gaps_kept(kind, named.gaps),
-    }
-}
-
-// The state of an empty trace.
-pub fn empty(s: Settings) -> State
-    ensures { λ r. ⌜ r ≡ stateOf s [] ⌝ }
-{
-    State {
-        settings: s,
-        used: 0,
-        runs: 0,
-        readings: 0,
-    }
-}
-
-// ---- asked
 
 pub fn is_late(kind: Kind) -> bool
     ensures { λ r. ⌜ r ≡ late kind ⌝ }
@@ -79,10 +17,11 @@ pub fn is_late(kind: Kind) -> bool
     }
 }
 
-pub fn steps_good(s: Settings) -> bool
-    ensures { λ r. ⌜ r ≡ stepsGood s ⌝ }
+// 1 to the top.
+pub fn bounded(n: usize, top: usize) -> bool
+    ensures { λ r. ⌜ r ≡ bounded top n ⌝ }
 {
-    if s.steps < 1 { false } else { s.steps <= MOST }
+    1 <= n && n <= top
 }
 
 pub fn gaps_good(kind: Kind, gaps: usize) -> bool
@@ -90,7 +29,7 @@ pub fn gaps_good(kind: Kind, gaps: usize) -> bool
 {
     match kind {
         Kind::InOrder => gaps == 0,
-        Kind::Late => 1 <= gaps && gaps <= MOST,
+        Kind::Late => bounded(gaps, MOST),
     }
 }
 
@@ -103,15 +42,15 @@ pub fn runs_allowed(kind: Kind, gaps: usize, runs: usize) -> bool
     }
 }
 
-// 2B in order, 2B + k late.
+// C in order, C + k late.
 pub fn limit(s: Settings, runs: usize) -> usize
     requires { ⌜ limit s runs < 2 ^ 32 ⌝ }
     ensures { λ r. ⌜ r ≡ limit s runs ⌝ }
 {
     let kind = s.kind;
     match kind {
-        Kind::InOrder => 2 * s.steps,
-        Kind::Late => 2 * s.steps + runs,
+        Kind::InOrder => s.base,
+        Kind::Late => s.base + runs,
     }
 }
 

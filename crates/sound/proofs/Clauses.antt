@@ -8,7 +8,7 @@ use lib.Dec.{leb}
 use lib.IntN.{ℤ}
 use lib.ListN.{getD}
 use Rattle.rule.specs.declared.State.{State}
-use Rattle.rule.specs.Room.{allOf, clauses, gapsGood, restZero, roomy, runsAllowed, sound, stepsGood}
+use Rattle.rule.specs.Room.{allOf, baseGood, clauses, gapsGood, restZero, roomy, runsAllowed, sound}
 use Rattle.rule.specs.Table.{limit}
 use Rattle.sound.proofs.Tests.{fails}
 use Rattle.sound.proofs.Scanning.{scanned}
@@ -16,7 +16,7 @@ use Rattle.rooms.proofs.Bounds.{limit-gaps, mostAllowed, needed-small}
 
 abbrev pub tests : State → List ℤ → List Bool
 tests s l =
-    stepsGood (s .settings)
+    baseGood (s .settings .base)
     ∷ gapsGood (s .settings .kind) (s .settings .gaps)
     ∷ runsAllowed (s .settings .kind) (s .settings .gaps) (s .runs)
     ∷ roomy (s .settings) l
@@ -38,8 +38,8 @@ pub record Limits (s : State) : Type 0 where
   pub small : limit (s .settings) (s .settings .gaps) ≤ mostAllowed
   pub grows : limit (s .settings) (s .runs) ≤ limit (s .settings) (s .settings .gaps)
 
-pub limits : (s : State) → stepsGood (s .settings) ≡ true → gapsGood (s .settings .kind) (s .settings .gaps) ≡ true
+pub limits : (s : State) → baseGood (s .settings .base) ≡ true → gapsGood (s .settings .kind) (s .settings .gaps) ≡ true
     → runsAllowed (s .settings .kind) (s .settings .gaps) (s .runs) ≡ true → Limits s
 limits s h g r =
     let t = s .settings in
-    record { small = omega (arith, needed-small t h g); grows = limit-gaps (t .kind) (2 * t .steps) (t .gaps) (s .runs) r }
+    record { small = omega (arith, needed-small t h g); grows = limit-gaps (t .kind) (t .base) (t .gaps) (s .runs) r }

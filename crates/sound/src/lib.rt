@@ -9,16 +9,17 @@ ghost use Rattle.rule.specs.Rules.{ruled};
 ghost use Rattle.rule.specs.Room.{allZero, ranged, signed, slotRanged, slots, sound, unsigned};
 ghost use Rattle.rule.specs.Table.{readings, runs, runsAfter};
 use rule::Kind;
+use rule::MOST_BASE;
 use rule::SLOT;
 use rule::State;
 use rule::WORD;
 use rules::first_broken;
 use rules::starts_run;
+use settings::bounded;
 use settings::gaps_good;
 use settings::limit;
 use settings::needed;
 use settings::runs_allowed;
-use settings::steps_good;
 use slots::read;
 
 pub(crate) fn unsigned(z: i64) -> bool
@@ -118,7 +119,7 @@ pub fn sound(s: State, room: &[i64]) -> bool
 {
     let settings = s.settings;
     let kind = settings.kind;
-    if !steps_good(settings) {
+    if !bounded(settings.base, MOST_BASE) {
         return false;
     }
     if !gaps_good(kind, settings.gaps) {

@@ -11,6 +11,7 @@ use lib.ListN.{length, take, drop, length-append, length-drop}
 use lib.Seq.{drop-append-add, drop-drop, take-at}
 use Rattle.rule.specs.declared.Bucket.{Bucket}
 use Rattle.rule.specs.declared.Refusal.{Refusal}
+use Rattle.rule.specs.declared.Opening.{Opening}
 use Rattle.rule.specs.declared.Settings.{Settings}
 use Rattle.rule.specs.declared.State.{State}
 use Rattle.rule.specs.declared.Written.{Written}
@@ -122,22 +123,22 @@ module _ (s : Settings) (file : List ℕ) where
 
 -- the records of a file that loads leave a slot free
 pub loads-needed : (s : Settings) (file : List ℕ) → Loads s file → suc (length (recordsOf file)) ≤ needed s
-loads-needed s file h = omega (arith, h .few, limit-gaps (s .kind) (2 * s .steps) (s .gaps) (runs (recordsOf file)) (h .allowed))
+loads-needed s file h = omega (arith, h .few, limit-gaps (s .kind) (s .base) (s .gaps) (runs (recordsOf file)) (h .allowed))
 
 -- ---- a load that is accepted
 
-module _ (s : Settings) (file : List ℕ) (l : List ℤ) where
-  pub load-accepts : (t : State) → loaded s file l .0 ≡ accepted t → Granted (kept s) l × Loads (kept s) file
+module _ (o : Opening) (file : List ℕ) (l : List ℤ) where
+  pub load-accepts : (t : State) → loaded o file l .0 ≡ accepted t → Granted (kept o) l × Loads (kept o) file
   unfolding traced
   load-accepts t =
-      past-admission (kept s) l (fileVerdict (kept s) file) P refuses (λ g. file-either (kept s) file P refuses (λ h e. (g, h)))
+      past-admission o l (fileVerdict (kept o) file) P refuses (λ g. file-either (kept o) file P refuses (λ h e. (g, h)))
     where
       P : Verdict Table → Type 0
-      P v = traced (kept s) l v .0 ≡ accepted t → Granted (kept s) l × Loads (kept s) file
+      P v = traced (kept o) l v .0 ≡ accepted t → Granted (kept o) l × Loads (kept o) file
 
       refuses : (r : Refusal) → P (refused r)
       refuses r e = absurd (let z : _≡_ {A = ℕ} 0 1 = cc in omega arith)
 
-  pub load-leaves : Granted (kept s) l → Loads (kept s) file → loaded s file l ≡ (accepted (stateOf (kept s) (recordsOf file)), laid (needed (kept s)) (recordsOf file) l)
+  pub load-leaves : Granted (kept o) l → Loads (kept o) file → loaded o file l ≡ (accepted (stateOf (kept o) (recordsOf file)), laid (needed (kept o)) (recordsOf file) l)
   unfolding traced
-  load-leaves g h = rw (admits (kept s) l g (fileVerdict (kept s) file), file-loads (kept s) file h)
+  load-leaves g h = rw (admits o l g (fileVerdict (kept o) file), file-loads (kept o) file h)

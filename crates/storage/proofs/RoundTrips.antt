@@ -4,19 +4,17 @@ use mathlib.Core.Path.{_≡_, refl, sym, ap, _∙_, subst}
 use mathlib.Core.Bool.{true}
 use mathlib.Core.List.{List, [], _++_, append-assoc}
 use native.Mathlib.Omega.{arith}
-use borrow.Author.Tests.{eqb-true}
 use lib.IntN.{ℤ}
 use lib.ListN.{length, take, drop, length-append, length-replicate}
 use lib.Seq.{take-at}
-use Rattle.rule.specs.declared.Kind.{Kind}
-use Rattle.rule.specs.declared.Kind.the-variants.{InOrder, Late}
+use Rattle.rule.specs.declared.Opening.{Opening}
 use Rattle.rule.specs.declared.Settings.{Settings}
 use Rattle.rule.specs.declared.State.{State}
 use Rattle.rule.specs.declared.Written.{Written}
 use Rattle.rule.specs.Bytes.{records, recordsOf, saved}
-use Rattle.rule.specs.Calls.{Verdict, accepted, admitted, fileVerdict, gapsKept, kept, loaded, opened, saveOutcome, stateOf, traced}
+use Rattle.rule.specs.Calls.{Verdict, accepted, admitted, fileVerdict, kept, loaded, opened, saveOutcome, stateOf, traced}
 use Rattle.rule.specs.Numbers.{recordWidth, slotWidth}
-use Rattle.rule.specs.Room.{flat, gapsGood, laid, restZero, sound, tableOf, zeros}
+use Rattle.rule.specs.Room.{flat, laid, restZero, sound, tableOf, zeros}
 use Rattle.rule.specs.Table.{Table, needed, readings, runs}
 use Rattle.rule.proofs.Ruling.{Ruled}
 use Rattle.storage.proofs.Records.{length-file}
@@ -30,11 +28,6 @@ use Rattle.storage.proofs.Filing.{Loads, file-loads, load-accepts, load
 use Rattle.rooms.proofs.Granting.{Granted}
 
 -- ---- saved, then loaded
-
-gaps-same : (k : Kind) (gaps : ℕ) → gapsGood k gaps ≡ true → gapsKept k gaps ≡ gaps
-unfolding gapsGood gapsKept
-gaps-same InOrder gaps h = sym (eqb-true gaps 0 h)
-gaps-same Late gaps h = refl
 
 -- the needed slots of what is laid: the buckets, and zeros
 take-laid : (n : ℕ) (t : Table) (l : List ℤ) → length t ≤ n → take (slotWidth * n) (laid n t l) ≡ flat t ++ zeros (slotWidth * (n - length t))
@@ -56,9 +49,6 @@ module _ (s : State) (l : List ℤ) (whole : sound s l ≡ true) where
       ∙ laid-over (s .used) (tableOf s l) l (length-slots l 0 (s .used))
       ∙ flat-slots (s .used) l (f .there) (f .ranges)
 
-  kept-same : kept (s .settings) ≡ s .settings
-  kept-same = λ i. record { kind = s .settings .kind; steps = s .settings .steps; gaps = gaps-same (s .settings .kind) (s .settings .gaps) (facts .gaps-good) i }
-
   state-same : stateOf (s .settings) (tableOf s l) ≡ s
   state-same = λ i. record { settings = s .settings; used = length-slots l 0 (s .used) i; runs = sym (facts .true-runs) i; readings = sym (facts .true-readings) i }
 
@@ -74,17 +64,17 @@ module _ (s : State) (l : List ℤ) (whole : sound s l ≡ true) where
         few = rw (same-records, ← facts .true-runs) (omega (arith, facts .few, length-slots l 0 (s .used)));
       }
 
-  module _ (m : List ℤ) (long : slotWidth * needed (s .settings) ≤ length m) where
-    again : loaded (s .settings) (saved (tableOf s l)) m ≡ (accepted s, laid (needed (s .settings)) (tableOf s l) m)
+  module _ (o : Opening) (names : kept o ≡ s .settings) (m : List ℤ) (long : slotWidth * needed (s .settings) ≤ length m) where
+    again : loaded o (saved (tableOf s l)) m ≡ (accepted s, laid (needed (s .settings)) (tableOf s l) m)
     again =
         let file : List ℕ = saved (tableOf s l) in
-        let g : Granted (s .settings) m = record { steps = facts .steps-good; gaps = facts .gaps-good; long = long } in
-        load-leaves (s .settings) file m (subst (λ (k : Settings). Granted k m) (sym kept-same) g) (subst (λ (k : Settings). Loads k file) (sym kept-same) loads)
-        ∙ ap (λ (k : Settings). (accepted (stateOf k (recordsOf file)), laid (needed k) (recordsOf file) m)) kept-same
+        let g : Granted (s .settings) m = record { base = facts .base-good; gaps = facts .gaps-good; long = long } in
+        load-leaves o file m (subst (λ (k : Settings). Granted k m) (sym names) g) (subst (λ (k : Settings). Loads k file) (sym names) loads)
+        ∙ ap (λ (k : Settings). (accepted (stateOf k (recordsOf file)), laid (needed k) (recordsOf file) m)) names
         ∙ ap (λ (t : Table). (accepted (stateOf (s .settings) t), laid (needed (s .settings)) t m)) same-records
         ∙ ap (λ (r : State). (accepted r, laid (needed (s .settings)) (tableOf s l) m)) state-same
 
-    slots-again : take (slotWidth * needed (s .settings)) (loaded (s .settings) (saved (tableOf s l)) m .1) ≡ take (slotWidth * needed (s .settings)) l
+    slots-again : take (slotWidth * needed (s .settings)) (loaded o (saved (tableOf s l)) m .1) ≡ take (slotWidth * needed (s .settings)) l
     slots-again =
         let n : ℕ = needed (s .settings) in
         let short : length (tableOf s l) ≤ n = omega (arith, length-slots l 0 (s .used), used-needed s l facts) in
@@ -92,84 +82,84 @@ module _ (s : State) (l : List ℤ) (whole : sound s l ≡ true) where
         ∙ take-laid n (tableOf s l) m short ∙ sym (take-laid n (tableOf s l) l short) ∙ ap (take (slotWidth * n)) as-laid
 
   -- where the load is accepted, the room was long enough
-  again-accepted : (m : List ℤ) (t : State) → loaded (s .settings) (saved (tableOf s l)) m .0 ≡ accepted t → slotWidth * needed (s .settings) ≤ length m
-  again-accepted m t e = subst (λ (k : Settings). slotWidth * needed k ≤ length m) kept-same (load-accepts (s .settings) (saved (tableOf s l)) m t e .0 .long)
+  again-accepted : (o : Opening) → kept o ≡ s .settings → (m : List ℤ) (t : State) → loaded o (saved (tableOf s l)) m .0 ≡ accepted t → slotWidth * needed (s .settings) ≤ length m
+  again-accepted o names m t e = subst (λ (k : Settings). slotWidth * needed k ≤ length m) names (load-accepts o (saved (tableOf s l)) m t e .0 .long)
 
   laid-again : (m : List ℤ) → slotWidth * needed (s .settings) ≤ length m → sound s (laid (needed (s .settings)) (tableOf s l) m) ≡ true
   laid-again m long =
       ap (λ (r : State). sound r (laid (needed (s .settings)) (tableOf s l) m)) (sym state-same)
       ∙ facts-sound _ _
-      (laid-facts (s .settings) (tableOf s l) m (facts .steps-good) (facts .gaps-good) (rw (← facts .true-runs) (facts .allowed)) long (rw (← facts .true-runs) (omega (arith, facts .few, length-slots l 0 (s .used)))) (fitted-slots l 0 (s .used) (facts .ranges)) (facts .rules))
+      (laid-facts (s .settings) (tableOf s l) m (facts .base-good) (facts .gaps-good) (rw (← facts .true-runs) (facts .allowed)) long (rw (← facts .true-runs) (omega (arith, facts .few, length-slots l 0 (s .used)))) (fitted-slots l 0 (s .used) (facts .ranges)) (facts .rules))
 
 -- ---- loaded, then saved
 
-module _ (s : Settings) (file : List ℕ) (l : List ℤ) (t : State) (known : AllBytes file) (accepts : loaded s file l .0 ≡ accepted t) where
-  granted : Granted (kept s) l
-  granted = load-accepts s file l t accepts .0
+module _ (o : Opening) (file : List ℕ) (l : List ℤ) (t : State) (known : AllBytes file) (accepts : loaded o file l .0 ≡ accepted t) where
+  granted : Granted (kept o) l
+  granted = load-accepts o file l t accepts .0
 
-  that-loads : Loads (kept s) file
-  that-loads = load-accepts s file l t accepts .1
+  that-loads : Loads (kept o) file
+  that-loads = load-accepts o file l t accepts .1
 
-  leaves : loaded s file l ≡ (accepted (stateOf (kept s) (recordsOf file)), laid (needed (kept s)) (recordsOf file) l)
-  leaves = load-leaves s file l granted that-loads
+  leaves : loaded o file l ≡ (accepted (stateOf (kept o) (recordsOf file)), laid (needed (kept o)) (recordsOf file) l)
+  leaves = load-leaves o file l granted that-loads
 
-  state-is : t ≡ stateOf (kept s) (recordsOf file)
-  state-is = let e : accepted t ≡ accepted (stateOf (kept s) (recordsOf file)) = sym accepts ∙ ap (λ (p : Verdict State × List ℤ). p .0) leaves in cc
+  state-is : t ≡ stateOf (kept o) (recordsOf file)
+  state-is = let e : accepted t ≡ accepted (stateOf (kept o) (recordsOf file)) = sym accepts ∙ ap (λ (p : Verdict State × List ℤ). p .0) leaves in cc
 
-  room-is : loaded s file l .1 ≡ laid (needed (kept s)) (recordsOf file) l
+  room-is : loaded o file l .1 ≡ laid (needed (kept o)) (recordsOf file) l
   room-is = ap (λ (p : Verdict State × List ℤ). p .1) leaves
 
-  laid-sound : sound (stateOf (kept s) (recordsOf file)) (laid (needed (kept s)) (recordsOf file) l) ≡ true
+  laid-sound : sound (stateOf (kept o) (recordsOf file)) (laid (needed (kept o)) (recordsOf file) l) ≡ true
   laid-sound =
       facts-sound _ _
-      (laid-facts (kept s) (recordsOf file) l (granted .steps) (granted .gaps) (that-loads .allowed) (granted .long) (that-loads .few) (file-fitted file known) (that-loads .rules))
+      (laid-facts (kept o) (recordsOf file) l (granted .base) (granted .gaps) (that-loads .allowed) (granted .long) (that-loads .few) (file-fitted file known) (that-loads .rules))
 
-  sound-again : sound t (loaded s file l .1) ≡ true
-  sound-again = ap (λ (r : State). sound r (loaded s file l .1)) state-is ∙ ap (sound (stateOf (kept s) (recordsOf file))) room-is ∙ laid-sound
+  sound-again : sound t (loaded o file l .1) ≡ true
+  sound-again = ap (λ (r : State). sound r (loaded o file l .1)) state-is ∙ ap (sound (stateOf (kept o) (recordsOf file))) room-is ∙ laid-sound
 
-  bytes-again : (out : List ℕ) → length file ≤ length out → saveOutcome t (loaded s file l .1) out ≡ (Written.Buckets (length file / recordWidth), file ++ drop (length file) out)
+  bytes-again : (out : List ℕ) → length file ≤ length out → saveOutcome t (loaded o file l .1) out ≡ (Written.Buckets (length file / recordWidth), file ++ drop (length file) out)
   bytes-again out h =
       let all : recordWidth * (length file / recordWidth) ≡ length file = omega (arith, that-loads .even) in
-      ap (λ (r : State). saveOutcome r (loaded s file l .1) out) state-is
-      ∙ ap (λ (m : List ℤ). saveOutcome (stateOf (kept s) (recordsOf file)) m out) room-is
-      ∙ save-writes (stateOf (kept s) (recordsOf file)) (laid (needed (kept s)) (recordsOf file) l) out laid-sound (omega (arith, length-file file))
-      ∙ rw (slots-laid (needed (kept s)) (recordsOf file) l, saved-records file (that-loads .even) known, length-file file, all)
+      ap (λ (r : State). saveOutcome r (loaded o file l .1) out) state-is
+      ∙ ap (λ (m : List ℤ). saveOutcome (stateOf (kept o) (recordsOf file)) m out) room-is
+      ∙ save-writes (stateOf (kept o) (recordsOf file)) (laid (needed (kept o)) (recordsOf file) l) out laid-sound (omega (arith, length-file file))
+      ∙ rw (slots-laid (needed (kept o)) (recordsOf file) l, saved-records file (that-loads .even) known, length-file file, all)
 
 -- ---- the statements
 
--- what a sound trace saves loads, with its settings and into any room that is long enough, as the same state and the same table
-pub saved-loaded : (s : State) (l m : List ℤ) → sound s l ≡ true → slotWidth * needed (s .settings) ≤ length m
-    → loaded (s .settings) (saved (tableOf s l)) m ≡ (accepted s, laid (needed (s .settings)) (tableOf s l) m)
-saved-loaded s l m whole long = again s l whole m long
+-- what a sound trace saves loads, by whatever names its settings and into any room that is long enough, as the same state and the same table
+pub saved-loaded : (o : Opening) (s : State) (l m : List ℤ) → kept o ≡ s .settings → sound s l ≡ true → slotWidth * needed (s .settings) ≤ length m
+    → loaded o (saved (tableOf s l)) m ≡ (accepted s, laid (needed (s .settings)) (tableOf s l) m)
+saved-loaded o s l m names whole long = again s l whole o names m long
 
 -- and every needed slot is then as it was
-pub saved-loaded-slots : (s : State) (l m : List ℤ) → sound s l ≡ true → slotWidth * needed (s .settings) ≤ length m
-    → take (slotWidth * needed (s .settings)) (loaded (s .settings) (saved (tableOf s l)) m .1) ≡ take (slotWidth * needed (s .settings)) l
-saved-loaded-slots s l m whole long = slots-again s l whole m long
+pub saved-loaded-slots : (o : Opening) (s : State) (l m : List ℤ) → kept o ≡ s .settings → sound s l ≡ true → slotWidth * needed (s .settings) ≤ length m
+    → take (slotWidth * needed (s .settings)) (loaded o (saved (tableOf s l)) m .1) ≡ take (slotWidth * needed (s .settings)) l
+saved-loaded-slots o s l m names whole long = slots-again s l whole o names m long
 
 -- where that load is accepted, whatever the room held, the trace is the same and sound
-pub saved-accepted : (s : State) (l m : List ℤ) (t : State) (n : List ℤ) → sound s l ≡ true → loaded (s .settings) (saved (tableOf s l)) m ≡ (accepted t, n)
+pub saved-accepted : (o : Opening) (s : State) (l m : List ℤ) (t : State) (n : List ℤ) → kept o ≡ s .settings → sound s l ≡ true → loaded o (saved (tableOf s l)) m ≡ (accepted t, n)
     → (t ≡ s) × (n ≡ laid (needed (s .settings)) (tableOf s l) m) × (sound s n ≡ true)
-saved-accepted s l m t n whole e =
-    let long = again-accepted s l whole m t (ap (λ (p : Verdict State × List ℤ). p .0) e) in
-    let f : _≡_ {A = Verdict State × List ℤ} (accepted t, n) (accepted s, laid (needed (s .settings)) (tableOf s l) m) = sym e ∙ again s l whole m long in
+saved-accepted o s l m t n names whole e =
+    let long = again-accepted s l whole o names m t (ap (λ (p : Verdict State × List ℤ). p .0) e) in
+    let f : _≡_ {A = Verdict State × List ℤ} (accepted t, n) (accepted s, laid (needed (s .settings)) (tableOf s l) m) = sym e ∙ again s l whole o names m long in
     let g : _≡_ {A = Verdict State} (accepted t) (accepted s) = ap (λ (p : Verdict State × List ℤ). p .0) f in
     let room : n ≡ laid (needed (s .settings)) (tableOf s l) m = ap (λ (p : Verdict State × List ℤ). p .1) f in
     ((let q : t ≡ s = cc in q), room, ap (sound s) room ∙ laid-again s l whole m long)
 
 -- an accepted load leaves a sound trace
-pub load-sound : (s : Settings) (file : List ℕ) (l : List ℤ) (t : State) → AllBytes file → loaded s file l .0 ≡ accepted t
-    → sound t (loaded s file l .1) ≡ true
-load-sound s file l t known accepts = sound-again s file l t known accepts
+pub load-sound : (o : Opening) (file : List ℕ) (l : List ℤ) (t : State) → AllBytes file → loaded o file l .0 ≡ accepted t
+    → sound t (loaded o file l .1) ≡ true
+load-sound o file l t known accepts = sound-again o file l t known accepts
 
 -- and saving that trace writes the bytes of the file, and no others
-pub loaded-saved : (s : Settings) (file : List ℕ) (l : List ℤ) (t : State) (out : List ℕ) → AllBytes file → loaded s file l .0 ≡ accepted t → length file ≤ length out
-    → saveOutcome t (loaded s file l .1) out ≡ (Written.Buckets (length file / recordWidth), file ++ drop (length file) out)
-loaded-saved s file l t out known accepts long = bytes-again s file l t known accepts out long
+pub loaded-saved : (o : Opening) (file : List ℕ) (l : List ℤ) (t : State) (out : List ℕ) → AllBytes file → loaded o file l .0 ≡ accepted t → length file ≤ length out
+    → saveOutcome t (loaded o file l .1) out ≡ (Written.Buckets (length file / recordWidth), file ++ drop (length file) out)
+loaded-saved o file l t out known accepts long = bytes-again o file l t known accepts out long
 
 -- the empty file is the empty trace
-pub empty-loaded : (s : Settings) (l : List ℤ) → loaded s [] l ≡ opened s l
+pub empty-loaded : (o : Opening) (l : List ℤ) → loaded o [] l ≡ opened o l
 unfolding fileVerdict recordsOf records Ruled runs
-empty-loaded s l =
-    let none : Loads (kept s) [] = record { even = refl; rules = tt; allowed = none-allowed (s .kind) (kept s .gaps); few = omega arith } in
-    ap (λ (v : Verdict Table). traced (kept s) l (admitted (kept s) l v)) (file-loads (kept s) [] none)
+empty-loaded o l =
+    let none : Loads (kept o) [] = record { even = refl; rules = tt; allowed = none-allowed (o .kind) (kept o .gaps); few = omega arith } in
+    ap (λ (v : Verdict Table). traced (kept o) l (admitted o l v)) (file-loads (kept o) [] none)

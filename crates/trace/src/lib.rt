@@ -10,14 +10,13 @@ use admission::Admitted;
 use admission::admit;
 use arrival::Arrival;
 use moves::clear;
+use openings::empty;
 use room::accept;
 use rule::Found;
+use rule::Opening;
 use rule::Refusal;
 use rule::SLOT;
-use rule::Settings;
 use rule::State;
-use settings::empty;
-use settings::kept;
 
 // The trace's state, with its calls. Each hands the next one back.
 pub struct Trace {
@@ -32,15 +31,16 @@ pub enum Answer {
 
 impl Trace {
     // An empty trace in the needed slots of the room.
-    pub fn open(named: Settings, room: &mut [i64]) -> Answer
+    pub fn open(named: Opening, room: &mut [i64]) -> Answer
         ensures { λ r. ⌜ (r, now (room .exit)) ≡ answered (opened named (now (room .entry))) ⌝ }
     {
-        let s = kept(named);
-        match admit(s, &*room) {
+        match admit(named, &*room) {
             Admitted::Refused(r) => Answer::Refused(r),
-            Admitted::Slots(needed) => {
-                clear(&mut *room, 0, SLOT * needed);
-                Answer::Accepted(Trace { state: empty(s) })
+            Admitted::Granted { settings, slots } => {
+                clear(&mut *room, 0, SLOT * slots);
+                Answer::Accepted(Trace {
+                    state: empty(settings),
+                })
             }
         }
     }

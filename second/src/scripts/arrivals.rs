@@ -1,7 +1,7 @@
 //! Late traces whose ticks arrive shuffled, or delayed by the two models: wholly accepted, or with fewer runs allowed than the order needs.
 
 use crate::arrivals::{self, Arrivals, ARRIVALS, BURSTY};
-use crate::calls::{self, MOST_GAPS};
+use crate::calls::{self, Size, MOST_GAPS};
 use crate::rule::Kind;
 use crate::script::Script;
 use crate::shapes;
@@ -68,7 +68,7 @@ impl Script {
     fn arrive(&mut self, steps: u64, gaps: u64, order: &[u32]) -> Vec<u32> {
         let first = self.random.choice(&[0, 1, 64_000]);
         let ticks: Vec<u32> = order.iter().map(|&tick| first + tick).collect();
-        self.open_fitting(Kind::Late, steps, gaps);
+        self.open_fitting(Kind::Late, Size::Steps(steps), gaps);
         for &tick in &ticks {
             self.arrived(tick);
         }

@@ -1,5 +1,6 @@
 //! The arithmetic of one bucket at both ends of the range, about zero and between, odd and even; and traces of readings from there.
 
+use crate::calls::Size;
 use crate::command::{Name, Word};
 use crate::rule::Kind;
 use crate::script::{wide, Script};
@@ -38,7 +39,7 @@ pub fn write(script: &mut Script) {
     // Spreads and unions of the same readings, by what is merged.
     for first in VALUES {
         for second in VALUES {
-            script.open_fitting(Kind::InOrder, 1, 0);
+            script.open_fitting(Kind::InOrder, Size::Steps(1), 0);
             for value in [first, second, first, second, 0] {
                 script.next(value);
             }

@@ -1,7 +1,7 @@
 //! Calls by chance from a seed: traces of both kinds, with states, rooms and files changed in one place, and settings, rooms and outputs that fit or
 //! do not.
 
-use crate::calls::{self, MOST_GAPS, MOST_STEPS, RECORD_BYTES, SLOT};
+use crate::calls::{self, Size, MOST_BASE, MOST_GAPS, MOST_STEPS, RECORD_BYTES, SLOT};
 use crate::command::{Name, Word};
 use crate::made;
 use crate::rule::{self, Bucket, Kind, TICKS};
@@ -10,7 +10,7 @@ use crate::session::{NUMBERS, PLACES};
 
 const FIELDS: [Name; 6] = [
     Name::Kind,
-    Name::Steps,
+    Name::Base,
     Name::Gaps,
     Name::Used,
     Name::Runs,
@@ -35,12 +35,13 @@ impl Script {
         let kind = self.random.choice(&[Kind::InOrder, Kind::Late]);
         let large = self.chance(300);
         let most = if large { 256 } else { 6 };
-        let steps = self.random.between(1, most) as u64;
+        let base = self.random.between(1, 2 * most) as u64;
         let gaps = self.random.between(1, most) as u64;
+        let size = self.size_of(base);
         if self.chance(2) {
-            self.refused_open(kind, steps, gaps);
+            self.refused_open(kind, size, gaps);
         }
-        let fitting = calls::needed_numbers(kind, steps, gaps);
+        let fitting = calls::needed_numbers(kind, base, gaps);
         let longer = self.random.choice(&[0, 0, 1, 3, 8]);
         for index in fitting..fitting + longer {
             let number = self.random.number() as i64;
@@ -48,7 +49,7 @@ impl Script {
         }
         self.room(fitting + longer);
         let number = self.number_of(kind);
-        self.open_as(number, steps, gaps);
+        self.open_as(number, size, gaps);
         if large || self.chance(2) {
             let table = self.table();
             self.lay_sound(&table);
@@ -69,17 +70,37 @@ impl Script {
         }
     }
 
-    fn refused_open(&mut self, kind: Kind, steps: u64, gaps: u64) {
-        let fitting = calls::needed_numbers(kind, steps, gaps);
-        let (steps, gaps, lent) = match self.random.below(3) {
-            0 => (self.beyond(MOST_STEPS), gaps, fitting),
-            1 => (steps, self.beyond(MOST_GAPS), fitting),
+    /// By either name where the base limit is 2B.
+    fn size_of(&mut self, base: u64) -> Size {
+        if base % 2 == 0 && self.chance(2) {
+            Size::Steps(base / 2)
+        } else {
+            Size::Base(base)
+        }
+    }
+
+    /// The size is in bounds.
+    fn refused_open(&mut self, kind: Kind, size: Size, gaps: u64) {
+        let base = size.base().expect("a size in bounds");
+        let fitting = calls::needed_numbers(kind, base, gaps);
+        let (size, gaps, lent) = match self.random.below(3) {
+            0 => (self.size_beyond(), gaps, fitting),
+            1 => (size, self.beyond(MOST_GAPS), fitting),
             _ => {
                 let short = self.random.choice(&[1, 1, 4, fitting]);
-                (steps, gaps, fitting - short)
+                (size, gaps, fitting - short)
             }
         };
-        self.open(kind, steps, gaps, lent);
+        self.open(kind, size, gaps, lent);
+    }
+
+    fn size_beyond(&mut self) -> Size {
+        let wraps = 1 << 63 | self.random.below(257);
+        match self.random.below(5) {
+            0 => Size::Steps(wraps),
+            1 | 2 => Size::Steps(self.beyond(MOST_STEPS)),
+            _ => Size::Base(self.beyond(MOST_BASE)),
+        }
     }
 
     fn beyond(&mut self, most: u64) -> u64 {
@@ -88,11 +109,10 @@ impl Script {
             .choice(&[0, most + 1, 65_536, 1 << 32, (1 << 32) + 1, wide, u64::MAX])
     }
 
-    /// A table that the settings allow, or the greatest B where they say more.
+    /// A table that the settings allow, or the greatest C where they say more.
     pub(super) fn table(&mut self) -> Vec<Bucket> {
         let state = self.session.state;
-        let steps = state.steps.min(MOST_STEPS);
-        let most = rule::limit(state.kind, steps, 0) as usize;
+        let most = state.base.min(MOST_BASE) as usize;
         let mut table = made::table(&mut self.random, state.kind, most);
         while state.kind == Kind::Late && rule::runs(&table) > state.gaps {
             table.pop();
@@ -323,38 +343,40 @@ impl Script {
             self.load_otherwise();
         } else {
             let state = self.session.state;
-            self.load_by(state.kind, state.steps, state.gaps);
+            self.load_by(state.kind, state.base, state.gaps);
         }
     }
 
-    fn load_by(&mut self, kind: Kind, steps: u64, gaps: u64) {
+    fn load_by(&mut self, kind: Kind, base: u64, gaps: u64) {
         let number = self.number_of(kind);
-        self.load_as(number, steps, gaps);
+        let size = self.size_of(base);
+        self.load_as(number, size, gaps);
     }
 
     /// By settings out of bounds, too small for the file or too large for the room, of the other kind, or in a room that is short.
     fn load_otherwise(&mut self) {
         let state = self.session.state;
-        let (kind, steps, gaps) = (state.kind, state.steps, state.gaps);
+        let (kind, base, gaps) = (state.kind, state.base, state.gaps);
         match self.random.below(8) {
             0 => {
-                let steps = self.beyond(MOST_STEPS);
-                self.load_by(kind, steps, gaps);
+                let number = self.number_of(kind);
+                let size = self.size_beyond();
+                self.load_as(number, size, gaps);
             }
             1 => {
                 let gaps = self.beyond(MOST_GAPS);
-                self.load_by(kind, steps, gaps);
+                self.load_by(kind, base, gaps);
             }
-            2 => self.load_by(kind, steps.saturating_sub(1), gaps),
-            3 => self.load_by(kind, steps, gaps.saturating_sub(1)),
-            4 => self.load_by(kind, steps.saturating_add(1), gaps),
-            5 => self.load_by(Kind::InOrder, steps, gaps),
-            6 => self.load_by(Kind::Late, steps.saturating_sub(1), 1),
+            2 => self.load_by(kind, base.saturating_sub(1), gaps),
+            3 => self.load_by(kind, base, gaps.saturating_sub(1)),
+            4 => self.load_by(kind, base.saturating_add(1), gaps),
+            5 => self.load_by(Kind::InOrder, base, gaps),
+            6 => self.load_by(Kind::Late, base.saturating_sub(2), 1),
             _ => {
                 let lent = self.session.lent;
                 let short = self.random.choice(&[1, 4, 9]);
                 self.room(lent.saturating_sub(short));
-                self.load_by(kind, steps, gaps);
+                self.load_by(kind, base, gaps);
                 self.room(lent);
             }
         }
@@ -454,8 +476,8 @@ impl Script {
     /// Records after the last, with so many ticks missing before each, up to one run or one record too many; answers the length then.
     fn lengthened(&mut self, records: usize, missing: u64) -> usize {
         let state = self.session.state;
-        let (steps, runs) = (state.steps.min(MOST_STEPS), state.runs.min(MOST_GAPS));
-        let most = rule::limit(state.kind, steps, runs);
+        let (base, runs) = (state.base.min(MOST_BASE), state.runs.min(MOST_GAPS));
+        let most = rule::limit(state.kind, base, runs);
         let allowed = if missing == 0 { most } else { state.gaps };
         let there = if missing == 0 {
             records as u64

@@ -1,6 +1,6 @@
 //! Saved files of every size up to the limit, each of them whole and with one fault, loaded with settings that fit and that do not.
 //!
-//! A shape is a kind, B, K and a number of records; its file is what a trace of that kind, B and K could have saved. In order, and late where
+//! A shape is a kind, B or C, K and a number of records; its file is what a trace of that kind, size and K could have saved. In order, and late where
 //! K is 1, the first record starts at 0 and each other one at the end of the one before. Any other late file has as many runs as K and its
 //! records allow. While fewer have begun, a record of even index begins one, and one of odd index does where otherwise too few records
 //! would be left; it starts 2, 3 or 4 ticks, for an index that leaves 0, 1 or 2 by 3, after the end of the one before, the first of all after 0.
@@ -8,9 +8,9 @@
 //! number of records ends at 16,777,216. Least and largest go by the index modulo 5: -5 and 7, the two ends of the range, 0 and 0, -3 and -2,
 //! 2,147,483,646 and 2,147,483,647; where the record has one tick its largest is its least.
 //!
-//! The shapes: in order with B of 1, 2 and 3, each with 0 to 2B records; late with the same B and K of 1, 2 and 3, each with 0 to 2B + K
-//! records. In order B 16 with 0 to 32 records, late B 16 and K 16 with 0 to 48. Then in order B 32 with 63 and 64 records, late B 32 and
-//! K 256 with 100, 319 and 320, in order B 256 with 511 and 512, late B 256 and K 256 with 767 and 768. K is 3 where the trace is in order,
+//! The shapes: in order with B 1, C 3, B 2 and C 5, each with 0 to C records, which is 2B; late with the same and K of 1, 2 and 3, each with 0 to
+//! C + K records. In order B 16 with 0 to 32 records, late C 31 and K 16 with 0 to 47. Then in order B 32 with 63 and 64 records, late C 63 and
+//! K 256 with 100, 318 and 319, in order C 511 with 510 and 511, late B 256 and K 256 with 767 and 768. K is 3 where the trace is in order,
 //! which takes no notice of it.
 //!
 //! | Fault | Places | At a place |
@@ -32,33 +32,34 @@
 //! A file of at most nine records gets the fault at every place; any other file at each place whose number divides by 211 where a bit is flipped, by 17 otherwise,
 //! and all 15 cuts.
 //!
-//! The settings are the shape's kind, B and K, and the room holds the numbers that a trace of the settings' kind with the shape's B and K
+//! The settings are the shape's kind, size and K, and the room holds the numbers that a trace of the settings' kind with the shape's size and K
 //! needs, and five more; but for what is said here. Where a bit is flipped only 0 to 5 are tried.
 //!
 //! | Setting | |
 //! |---|---|
 //! | 0 | |
 //! | 1 | the other kind |
-//! | 2, 3 | B one less; K one less |
+//! | 2, 3 | B or C one less; K one less |
 //! | 4, 5 | as many numbers as are needed; one number short |
-//! | 6, 7 | B is 0; 257 |
+//! | 6, 7 | B or C is 0; B is 257 or C is 513 |
 //! | 8, 9 | K is 0; 257 |
-//! | 10 | B and K are 0, and the room has no number |
+//! | 10 | B or C and K are 0, and the room has no number |
 //! | 11 | K is 257, and the room has no number |
 //! | 12 | the room has no number |
 //!
 //! Before a load every number of the room is one of five, turn by turn. An accepted load is saved twice into an output that holds 165 everywhere
 //! and is twenty bytes longer than the file: with a byte less of it than the file has, and with all of it.
 
-use crate::calls::{self, Record, RECORD_BYTES, SLOT};
+use crate::calls::{self, Record, Size, MOST_BASE, MOST_STEPS, RECORD_BYTES, SLOT};
 use crate::rule::{Kind, TICKS};
 use crate::script::Script;
 use crate::session::record_bytes;
+use Size::{Base, Steps};
 
 #[derive(Clone, Copy, Debug)]
 pub struct Shape {
     pub kind: Kind,
-    pub steps: u64,
+    pub size: Size,
     pub gaps: u64,
     pub records: usize,
 }
@@ -116,47 +117,48 @@ pub struct Try<'a> {
     pub setting: usize,
     pub file: &'a [u8],
     pub kind: Kind,
-    pub steps: u64,
+    pub size: Size,
     pub gaps: u64,
     pub lent: usize,
 }
 
 pub fn shapes() -> Vec<Shape> {
     let mut shapes = Vec::new();
-    let mut add = |kind, steps, gaps, records| {
+    let mut add = |kind, size, gaps, records| {
         shapes.push(Shape {
             kind,
-            steps,
+            size,
             gaps,
             records,
         });
     };
-    for steps in 1..=3 {
-        for records in 0..=2 * steps {
-            add(Kind::InOrder, steps, 3, records as usize);
+    let small = [(Steps(1), 2), (Base(3), 3), (Steps(2), 4), (Base(5), 5)];
+    for (size, base) in small {
+        for records in 0..=base {
+            add(Kind::InOrder, size, 3, records as usize);
         }
     }
-    for steps in 1..=3 {
+    for (size, base) in small {
         for gaps in 1..=3 {
-            for records in 0..=2 * steps + gaps {
-                add(Kind::Late, steps, gaps, records as usize);
+            for records in 0..=base + gaps {
+                add(Kind::Late, size, gaps, records as usize);
             }
         }
     }
     for records in 0..=32 {
-        add(Kind::InOrder, 16, 3, records);
+        add(Kind::InOrder, Steps(16), 3, records);
     }
-    for records in 0..=48 {
-        add(Kind::Late, 16, 16, records);
+    for records in 0..=47 {
+        add(Kind::Late, Base(31), 16, records);
     }
-    for (kind, steps, gaps, sizes) in [
-        (Kind::InOrder, 32, 3, &[63, 64][..]),
-        (Kind::Late, 32, 256, &[100, 319, 320]),
-        (Kind::InOrder, 256, 3, &[511, 512]),
-        (Kind::Late, 256, 256, &[767, 768]),
+    for (kind, size, gaps, counts) in [
+        (Kind::InOrder, Steps(32), 3, &[63, 64][..]),
+        (Kind::Late, Base(63), 256, &[100, 318, 319]),
+        (Kind::InOrder, Base(511), 3, &[510, 511]),
+        (Kind::Late, Steps(256), 256, &[767, 768]),
     ] {
-        for &records in sizes {
-            add(kind, steps, gaps, records);
+        for &records in counts {
+            add(kind, size, gaps, records);
         }
     }
     shapes
@@ -182,7 +184,7 @@ impl Script {
         let old = OLD_NUMBERS[self.calls as usize % OLD_NUMBERS.len()];
         self.fill(old);
         let length = given.file.len() as u64;
-        if !self.load_as(given.kind as u64, given.steps, given.gaps) {
+        if !self.load_as(given.kind as u64, given.size, given.gaps) {
             return;
         }
         self.blank(length + 20, OLD_BYTE);
@@ -211,13 +213,13 @@ pub fn each_try(shape: &Shape, fault: Fault, mut tried: impl FnMut(&Try)) {
             continue;
         };
         for setting in 0..settings {
-            let (kind, steps, gaps, lent) = shape.setting(setting);
+            let (kind, size, gaps, lent) = shape.setting(setting);
             tried(&Try {
                 place,
                 setting,
                 file: &file,
                 kind,
-                steps,
+                size,
                 gaps,
                 lent,
             });
@@ -249,34 +251,39 @@ impl Shape {
         records
     }
 
-    /// Kind, B, K and the numbers lent.
-    fn setting(&self, number: usize) -> (Kind, u64, u64, usize) {
+    /// Kind, B or C, K and the numbers lent.
+    fn setting(&self, number: usize) -> (Kind, Size, u64, usize) {
         let other = match self.kind {
             Kind::InOrder => Kind::Late,
             Kind::Late => Kind::InOrder,
         };
         let Shape {
-            kind, steps, gaps, ..
+            kind, size, gaps, ..
         } = *self;
-        let needed = calls::needed_slots(kind, steps, gaps) * SLOT;
+        let base = size.base().expect("a size in bounds");
+        let (less, none, beyond) = match size {
+            Steps(steps) => (Steps(steps - 1), Steps(0), Steps(MOST_STEPS + 1)),
+            Base(base) => (Base(base - 1), Base(0), Base(MOST_BASE + 1)),
+        };
+        let needed = calls::needed_slots(kind, base, gaps) * SLOT;
         let lent = needed + 5;
         match number {
             1 => {
-                let lent = calls::needed_slots(other, steps, gaps) * SLOT + 5;
-                (other, steps, gaps, lent)
+                let lent = calls::needed_slots(other, base, gaps) * SLOT + 5;
+                (other, size, gaps, lent)
             }
-            2 => (kind, steps - 1, gaps, lent),
-            3 => (kind, steps, gaps - 1, lent),
-            4 => (kind, steps, gaps, needed),
-            5 => (kind, steps, gaps, needed - 1),
-            6 => (kind, 0, gaps, lent),
-            7 => (kind, 257, gaps, lent),
-            8 => (kind, steps, 0, lent),
-            9 => (kind, steps, 257, lent),
-            10 => (kind, 0, 0, 0),
-            11 => (kind, steps, 257, 0),
-            12 => (kind, steps, gaps, 0),
-            _ => (kind, steps, gaps, lent),
+            2 => (kind, less, gaps, lent),
+            3 => (kind, size, gaps - 1, lent),
+            4 => (kind, size, gaps, needed),
+            5 => (kind, size, gaps, needed - 1),
+            6 => (kind, none, gaps, lent),
+            7 => (kind, beyond, gaps, lent),
+            8 => (kind, size, 0, lent),
+            9 => (kind, size, 257, lent),
+            10 => (kind, none, 0, 0),
+            11 => (kind, size, 257, 0),
+            12 => (kind, size, gaps, 0),
+            _ => (kind, size, gaps, lent),
         }
     }
 }

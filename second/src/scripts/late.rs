@@ -1,5 +1,6 @@
 //! Late readings in ten orders of ticks, few runs allowed and many, up to the bounds of B and K; and the late traces worked by hand.
 
+use crate::calls::Size;
 use crate::command::Word;
 use crate::rule::Kind;
 use crate::script::Script;
@@ -41,7 +42,7 @@ impl Script {
             &[(0, 1), (2, 5), (1, 9)],
         ];
         for readings in traces {
-            self.open_fitting(Kind::Late, 1, 2);
+            self.open_fitting(Kind::Late, Size::Steps(1), 2);
             for &(tick, value) in readings {
                 self.late(tick, value);
                 if shown {
@@ -52,7 +53,7 @@ impl Script {
         }
     }
 
-    fn feed_late(&mut self, order: u8, shape: u8, count: u64) {
+    pub(super) fn feed_late(&mut self, order: u8, shape: u8, count: u64) {
         let seed = self.random.number() as u32;
         let readings = shapes::readings(Shape::of(shape), seed);
         for reading in readings.take(count as usize) {
@@ -64,7 +65,7 @@ impl Script {
     fn short_late(&mut self, order: u8) {
         for (steps, gaps) in [(1, 1), (1, 2), (1, 9), (2, 3), (3, 5), (5, 20)] {
             for shape in [2, 4, 5] {
-                self.open_fitting(Kind::Late, steps, gaps);
+                self.open_fitting(Kind::Late, Size::Steps(steps), gaps);
                 self.feed_late(order, shape, 6 * steps + 20);
             }
             self.sweep(0, 7, 12);
@@ -77,7 +78,7 @@ impl Script {
     fn long_late(&mut self, order: u8) {
         for (steps, gaps) in [(1, 256), (4, 16), (32, 8), (100, 200), (256, 1), (256, 256)] {
             for shape in [2, 4] {
-                self.open_fitting(Kind::Late, steps, gaps);
+                self.open_fitting(Kind::Late, Size::Steps(steps), gaps);
                 self.feed_late(order, shape, 3 * steps + 300);
             }
             self.sweep(3, 97, 8);

@@ -1,7 +1,7 @@
 //! Files, rooms, rows and outputs as long as the largest trace needs, and longer: records past the 768 that a trace can save, with a fault at a place
 //! behind them.
 
-use crate::calls::{RECORD_BYTES, SLOT};
+use crate::calls::{Size::Steps, RECORD_BYTES, SLOT};
 use crate::command::{Name, Word};
 use crate::rule::Kind;
 use crate::script::Script;
@@ -25,7 +25,7 @@ impl Script {
         ] {
             self.room(numbers);
             self.fill(77);
-            self.open_as(kind as u64, 256, 256);
+            self.open_as(kind as u64, Steps(256), 256);
             let apart = match kind {
                 Kind::InOrder => 1,
                 Kind::Late => 2,
@@ -57,9 +57,9 @@ impl Script {
                     Kind::Late => self.late(turn * 50 + 1, turn as i32),
                 }
             }
-            self.load_as(kind as u64, 256, 256);
-            self.load_as(kind as u64, 255, 256);
-            self.load_as(kind as u64, 256, 255);
+            self.load_as(kind as u64, Steps(256), 256);
+            self.load_as(kind as u64, Steps(255), 256);
+            self.load_as(kind as u64, Steps(256), 255);
         }
     }
 
@@ -73,9 +73,9 @@ impl Script {
         }
         for records in [769, 1_024, 1_025, 1_026, 2_000, PLACES] {
             self.file_length(records * RECORD_BYTES);
-            self.load_as(kind as u64, 256, 256);
+            self.load_as(kind as u64, Steps(256), 256);
             self.file_length(records * RECORD_BYTES - 1);
-            self.load_as(kind as u64, 256, 256);
+            self.load_as(kind as u64, Steps(256), 256);
         }
         for turn in 0..160 {
             let place = match turn {
@@ -92,7 +92,7 @@ impl Script {
             self.record(place, fault);
             for records in [place, place + 1, PLACES] {
                 self.file_length(records * RECORD_BYTES);
-                self.load_as(kind as u64, 256, 256);
+                self.load_as(kind as u64, Steps(256), 256);
             }
             self.record(place, [whole, 1, 3, 3]);
         }
@@ -102,7 +102,7 @@ impl Script {
                 self.record(at as usize, [2 * at, 1, 3, 3]);
             }
             self.file_length(records * RECORD_BYTES);
-            self.load_as(kind as u64, 256, 256);
+            self.load_as(kind as u64, Steps(256), 256);
         }
     }
 }

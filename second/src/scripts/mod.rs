@@ -1,6 +1,7 @@
 //! The scripts by name, and the headings that they must have so many calls under.
 
 pub mod arrivals;
+pub mod base;
 pub mod buckets;
 pub mod chance;
 pub mod files;
@@ -17,15 +18,16 @@ use crate::arrivals::ARRIVALS;
 use crate::script::Script;
 
 /// The scripts that are one and the same each time; besides them there is one by chance for each seed.
-pub const NAMES: [&str; 11] = [
-    "arrivals", "buckets", "files", "late", "long", "next", "search", "sessions", "settings",
-    "short", "unsound",
+pub const NAMES: [&str; 12] = [
+    "arrivals", "base", "buckets", "files", "late", "long", "next", "search", "sessions",
+    "settings", "short", "unsound",
 ];
 
 /// Nothing for another name.
 pub fn of_name(name: &str) -> Option<Script> {
     let write = match name {
         "arrivals" => arrivals::write,
+        "base" => base::write,
         "buckets" => buckets::write,
         "files" => files::write,
         "late" => late::write,

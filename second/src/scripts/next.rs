@@ -1,6 +1,6 @@
 //! Traces in order: those worked by hand, short ones with few levels for many ties, long ones, and ones whose last ticks are near.
 
-use crate::calls;
+use crate::calls::{self, Size};
 use crate::command::Word;
 use crate::rule::{Kind, TICKS};
 use crate::script::Script;
@@ -27,7 +27,7 @@ impl Script {
             (1, &[i32::MIN, i32::MAX, i32::MAX, i32::MIN, 0, -1]),
         ];
         for (steps, values) in traces {
-            self.open_fitting(Kind::InOrder, steps, 0);
+            self.open_fitting(Kind::InOrder, Size::Steps(steps), 0);
             for &value in values {
                 self.next(value);
                 if shown {
@@ -39,7 +39,7 @@ impl Script {
     }
 
     /// Every reading of a shape.
-    fn feed(&mut self, shape: u8, count: u64, seed: u32) {
+    pub(super) fn feed(&mut self, shape: u8, count: u64, seed: u32) {
         let readings = shapes::readings(Shape::of(shape), seed);
         for reading in readings.take(count as usize) {
             self.next(reading.value);
@@ -56,7 +56,7 @@ impl Script {
         for steps in [1, 1, 1, 1, 2, 2, 2, 3, 3, 4, 5, 8, 9] {
             for shape in 0..SHAPES {
                 let seed = self.seed();
-                self.open_fitting(Kind::InOrder, steps, 0);
+                self.open_fitting(Kind::InOrder, Size::Steps(steps), 0);
                 self.feed(shape, 6 * steps + 6, seed);
                 self.late(0, 1);
                 self.worst();
@@ -71,8 +71,8 @@ impl Script {
             for shape in 0..SHAPES {
                 let seed = self.seed();
                 let extra = self.random.below(40) as usize;
-                let lent = calls::needed_numbers(Kind::InOrder, steps, 0) + extra;
-                self.open(Kind::InOrder, steps, 0, lent);
+                let lent = calls::needed_numbers(Kind::InOrder, 2 * steps, 0) + extra;
+                self.open(Kind::InOrder, Size::Steps(steps), 0, lent);
                 let count = 3 * steps + 300;
                 self.feed(shape, count, seed);
                 self.sweep(seed % 9, count as u32 / 6, 8);
@@ -80,7 +80,7 @@ impl Script {
             }
         }
         // One trace fed by one shape after the other.
-        self.open_fitting(Kind::InOrder, 32, 0);
+        self.open_fitting(Kind::InOrder, Size::Steps(32), 0);
         for turn in 0..12 {
             let seed = self.seed();
             self.feed(turn % SHAPES, 500, seed);
@@ -93,7 +93,7 @@ impl Script {
         for word in [Word::Next, Word::NextTold] {
             for steps in [1, 2, 256] {
                 for left in [0, 1, 2] {
-                    self.open_fitting(Kind::InOrder, steps, 0);
+                    self.open_fitting(Kind::InOrder, Size::Steps(steps), 0);
                     self.lay(&[[0, (TICKS - left) as i64, -7, 9]], 1);
                     for value in [3, 4, 5] {
                         self.read(word, 0, value);
@@ -103,7 +103,7 @@ impl Script {
             }
         }
         for word in [Word::Late, Word::LateTold] {
-            self.open_fitting(Kind::Late, 1, 2);
+            self.open_fitting(Kind::Late, Size::Steps(1), 2);
             let last = TICKS as u32 - 1;
             for tick in [0, last + 1, last, u32::MAX, last - 1] {
                 self.read(word, tick, 6);
@@ -112,7 +112,7 @@ impl Script {
         }
         let ticks = TICKS as i64;
         for (first, second) in [(ticks - 1, 1), (ticks, 1), (1, ticks), (ticks - 2, 1)] {
-            self.open_fitting(Kind::InOrder, 2, 0);
+            self.open_fitting(Kind::InOrder, Size::Steps(2), 0);
             let largest = 3 + first.min(2) - 1;
             self.lay(&[[0, first, 3, largest], [first, second, 3, 3]], 1);
             self.next(3);

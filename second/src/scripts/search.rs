@@ -1,7 +1,7 @@
 //! Searches for the first bucket over a bar: every short range of two tables worked by hand, and ranges and bars about the buckets of tables by chance,
 //! few, many and as many as there can be, up to the last tick.
 
-use crate::calls::{MOST_GAPS, MOST_STEPS, SLOT};
+use crate::calls::{Size, MOST_GAPS, MOST_STEPS, SLOT};
 use crate::command::{Name, Word};
 use crate::rule::{Bucket, Kind, TICKS};
 use crate::script::{wide, Script};
@@ -36,7 +36,7 @@ impl Script {
     fn worked_searches(&mut self) {
         self.heading("# searches worked by hand");
         for (kind, third) in [(Kind::InOrder, 5), (Kind::Late, 7)] {
-            self.open_fitting(kind, 2, 2);
+            self.open_fitting(kind, Size::Steps(2), 2);
             let table = [[0, 3, -1, 4], [3, 2, 8, 9], [third, 2, 2, 9]];
             self.lay(&table, 1 + kind as u64);
             for ends in 0..100 {
@@ -85,7 +85,7 @@ impl Script {
     /// As many buckets as there can be, each largest reading above all before it, so that a bar picks any of them; late, three to a run. A bucket over
     /// every bar stands behind the needed slots.
     fn search_full(&mut self, kind: Kind, most: u64) {
-        self.open_fitting(kind, MOST_STEPS, MOST_GAPS);
+        self.open_fitting(kind, Size::Steps(MOST_STEPS), MOST_GAPS);
         let reading = |at: u64| Bucket::of_reading(at + (kind as u64) * (at / 3), at as i64);
         let table: Vec<Bucket> = (0..most).map(reading).collect();
         self.lay_sound(&table);
@@ -104,7 +104,7 @@ impl Script {
 
     fn open_any_kind(&mut self, steps: u64, gaps: u64) {
         let kind = self.random.choice(&[Kind::InOrder, Kind::Late]);
-        self.open_fitting(kind, steps, gaps);
+        self.open_fitting(kind, Size::Steps(steps), gaps);
     }
 
     /// One bucket's readings are all the least there is, or all the largest.

@@ -3,6 +3,7 @@
 //! A reading goes to the call of the trace's kind. But the turns that leave 9 by 17 are asked of a state that counts a reading too many; of the
 //! others those that leave 5 by 11 go to the call of the other kind; of the others those that leave 7 by 13 have the tick 16,777,216.
 
+use crate::calls::Size;
 use crate::command::{Name, Word};
 use crate::rule::{Kind, TICKS};
 use crate::script::Script;
@@ -81,11 +82,11 @@ impl Script {
         self.give(Word::Tally, &counts);
         self.room(1_284);
         match beginning {
-            Beginning::Opened => self.open_as(kind as u64, steps, gaps),
+            Beginning::Opened => self.open_as(kind as u64, Size::Steps(steps), gaps),
             Beginning::Loaded => {
                 self.record(0, [0, TICKS as i64 - 2, -3, 9]);
                 self.file_length(16);
-                self.load_as(kind as u64, steps, gaps);
+                self.load_as(kind as u64, Size::Steps(steps), gaps);
             }
         }
         for turn in 0..readings {

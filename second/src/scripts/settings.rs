@@ -1,25 +1,29 @@
-//! Open and load by settings of all 64 bits, each bound of B and K from both sides, and rooms about the needed length that hold what was there before.
+//! Open and load by settings of all 64 bits, each bound of B, C and K from both sides, and rooms about the needed length that hold what was there before.
 
-use crate::calls::{self, MOST_GAPS, MOST_STEPS};
+use crate::calls::{self, Size, MOST_BASE, MOST_GAPS, MOST_STEPS};
 use crate::command::Word;
 use crate::rule::Kind;
 use crate::script::Script;
 use crate::session::NUMBERS;
 
 const KINDS: [u64; 5] = [0, 1, 7, 1 << 32, u64::MAX];
-/// The lowest 32 bits of those from 2^32 on would do.
-const STEPS: [u64; 11] = [
-    0,
-    1,
-    2,
-    255,
-    256,
-    257,
-    65_536,
-    1 << 32,
-    (1 << 32) + 1,
-    (1 << 63) + 2,
-    u64::MAX,
+/// B where `by` is 0, else C. The lowest 32 bits of those from 2^32 on would do.
+const SIZES: [(u64, u64); 15] = [
+    (0, 0),
+    (1, 0),
+    (2, 0),
+    (255, 0),
+    (256, 0),
+    (257, 0),
+    (65_536, 0),
+    (1 << 32, 0),
+    ((1 << 32) + 1, 0),
+    ((1 << 63) + 2, 0),
+    (u64::MAX, 0),
+    (3, 1),
+    (512, 2),
+    (513, 1 << 32),
+    ((1 << 32) + 1, 1 << 63),
 ];
 const GAPS: [u64; 9] = [
     0,
@@ -35,23 +39,23 @@ const GAPS: [u64; 9] = [
 
 pub fn write(script: &mut Script) {
     script.heading("# open with settings of 64 bits");
-    script.each_setting(|script, kind, steps, gaps| {
-        script.open_as(kind, steps, gaps);
+    script.each_setting(|script, kind, (size, by), gaps| {
+        script.named(Word::Open, kind, size, gaps, by);
         script.next(0);
     });
     script.heading("# load with settings of 64 bits");
     script.record(0, [0, 2, -1, 1]);
     script.record(1, [2, 1, 5, 5]);
     script.file_length(32);
-    script.each_setting(|script, kind, steps, gaps| {
-        script.load_as(kind, steps, gaps);
+    script.each_setting(|script, kind, (size, by), gaps| {
+        script.named(Word::Load, kind, size, gaps, by);
     });
     script.heading("# rooms of any length");
     for numbers in [0, 1, 11, 12, 13, 16, 5_000, NUMBERS] {
         for kind in [Kind::InOrder, Kind::Late] {
             script.room(numbers);
             script.fill(-9);
-            script.open_as(kind as u64, 1, 1);
+            script.open_as(kind as u64, Size::Steps(1), 1);
             script.next(3);
             script.late(4, 3);
             script.give(Word::Worst, &[]);
@@ -62,21 +66,21 @@ pub fn write(script: &mut Script) {
 }
 
 impl Script {
-    fn each_setting(&mut self, mut call: impl FnMut(&mut Script, u64, u64, u64)) {
+    fn each_setting(&mut self, mut call: impl FnMut(&mut Script, u64, (u64, u64), u64)) {
         for kind in KINDS {
-            for steps in STEPS {
+            for (size, by) in SIZES {
                 for gaps in GAPS {
                     let trace_kind = if kind == 0 { Kind::InOrder } else { Kind::Late };
-                    let fitting = calls::needed_numbers(
-                        trace_kind,
-                        steps.clamp(1, MOST_STEPS),
-                        gaps.clamp(1, MOST_GAPS),
-                    );
+                    let base = match by {
+                        0 => 2 * size.clamp(1, MOST_STEPS),
+                        _ => size.clamp(1, MOST_BASE),
+                    };
+                    let fitting = calls::needed_numbers(trace_kind, base, gaps.clamp(1, MOST_GAPS));
                     let numbers = fitting + 1 - self.random.below(3) as usize;
                     self.room(numbers);
                     self.set(fitting - 1, -1);
                     self.set(fitting, -2);
-                    call(self, kind, steps, gaps);
+                    call(self, kind, (size, by), gaps);
                 }
             }
         }

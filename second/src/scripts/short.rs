@@ -1,5 +1,6 @@
 //! The short script that is stored, of a few hundred commands: each word that the proved program crates/calls obeys, and no other.
 
+use crate::calls::Size::{self, Base, Steps};
 use crate::command::{Name, Word};
 use crate::made;
 use crate::random::Random;
@@ -11,21 +12,29 @@ pub fn write(script: &mut Script) {
     script.worked(false);
     script.worked_late(false);
     script.heading("# settings");
-    for (kind, steps, gaps) in [
-        (0, 0, 0),
-        (0, 257, 0),
-        (0, 1, u64::MAX),
-        (1, 1, 0),
-        (1, 1, 257),
-        (u64::MAX, 2, 3),
-        (0, 1 << 32, 0),
-        (1, 1, (1 << 32) + 1),
+    for (kind, size, gaps, by) in [
+        (0, 0, 0, 0),
+        (0, 257, 0, 0),
+        (0, 1, u64::MAX, 0),
+        (1, 1, 0, 0),
+        (1, 1, 257, 0),
+        (u64::MAX, 2, 3, 0),
+        (0, 1 << 32, 0, 0),
+        (1, 1, (1 << 32) + 1, 0),
+        (0, (1 << 63) + 1, 0, 0),
+        (0, 0, 0, 1),
+        (0, 513, 0, 1),
+        (1, (1 << 32) + 1, 3, 1),
+        (0, 3, 0, 2),
+        (1, 5, 3, u64::MAX),
     ] {
         script.room(12);
-        script.open_as(kind, steps, gaps);
+        script.named(Word::Open, kind, size, gaps, by);
         script.room(40);
-        script.open_as(kind, steps, gaps);
+        script.named(Word::Open, kind, size, gaps, by);
     }
+    script.heading("# odd tables");
+    script.short_odd();
     script.heading("# rows, saves and loads");
     script.short_outputs();
     script.heading("# unsound states and rooms");
@@ -33,8 +42,28 @@ pub fn write(script: &mut Script) {
 }
 
 impl Script {
+    /// Filled, merged, saved, and loaded by the same C, one less and one more.
+    fn short_odd(&mut self) {
+        for kind in [Kind::InOrder, Kind::Late] {
+            self.open(kind, Base(3), 2, 28);
+            for (tick, value) in [(0, 7), (1, 0), (2, -7), (3, 0), (4, 3), (5, 9)] {
+                match kind {
+                    Kind::InOrder => self.next(value),
+                    Kind::Late => self.late(tick, value),
+                }
+            }
+            let used = self.session.state.used;
+            self.save(16 * used);
+            self.give(Word::Take, &[(Name::Bytes, 16 * used)]);
+            for (size, by) in [(3, 1), (2, 1), (1, 0), (2, 0), (4, 2)] {
+                self.named(Word::Load, kind as u64, size, 2, by);
+            }
+            self.worst();
+        }
+    }
+
     fn short_outputs(&mut self) {
-        self.open(Kind::Late, 1, 2, 30);
+        self.open(Kind::Late, Steps(1), 2, 30);
         for (tick, value) in [(3, -2), (4, i32::MIN), (5, i32::MAX), (9, 7)] {
             self.late(tick, value);
             let used = self.session.state.used;
@@ -45,30 +74,37 @@ impl Script {
             self.save(16 * used - 1);
             self.give(Word::Take, &[(Name::Bytes, 16 * used)]);
             self.set(0, -3);
-            for (kind, steps, gaps) in [(1, 1, 2), (1, 1, 1), (0, 2, 0), (1, 2, 2), (1, 9, 9)] {
-                self.load_as(kind, steps, gaps);
+            let settings: [(u64, Size, u64); 5] = [
+                (1, Steps(1), 2),
+                (1, Steps(1), 1),
+                (0, Base(4), 0),
+                (1, Steps(2), 2),
+                (1, Base(18), 9),
+            ];
+            for (kind, size, gaps) in settings {
+                self.load_as(kind, size, gaps);
             }
             self.file_length(16 * used as usize - 1);
-            self.load_as(1, 1, 2);
+            self.load_as(1, Base(2), 2);
             self.file_length(16 * used as usize);
-            self.load_as(1, 1, 2);
+            self.load_as(1, Base(2), 2);
         }
         for (at, byte) in [(4, 0), (3, 1), (15, 128), (24, 9)] {
             let there = self.session.file[at];
             self.byte(at, byte);
-            self.load_as(1, 1, 2);
+            self.load_as(1, Steps(1), 2);
             self.byte(at, there);
         }
     }
 
     fn short_changes(&mut self) {
         for kind in [Kind::InOrder, Kind::Late] {
-            self.open_fitting(kind, 2, 3);
+            self.open_fitting(kind, Steps(2), 3);
             let table = made::table(&mut self.random, kind, 4);
             self.lay_by_numbers(&table);
             self.lookup(0);
             for name in [
-                Name::Steps,
+                Name::Base,
                 Name::Gaps,
                 Name::Used,
                 Name::Runs,

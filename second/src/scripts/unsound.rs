@@ -1,6 +1,6 @@
 //! States and rooms of which one clause of soundness is broken and no other, each asked of every call; and tables with one thing wrong.
 
-use crate::calls::{self, MOST_GAPS, MOST_STEPS, SLOT};
+use crate::calls::{self, Size, MOST_BASE, MOST_GAPS, SLOT};
 use crate::clauses::{self, CLAUSES};
 use crate::command::{Name, Word};
 use crate::made;
@@ -43,22 +43,19 @@ impl Script {
     fn tried(&mut self, clause: usize) -> Script {
         let mut script = Script::new(self.random.number());
         let kind = script.random.choice(&[Kind::InOrder, Kind::Late]);
-        let steps = script.random.choice(&[1, 1, 2, 3, 5, 256]);
+        let base = script.random.choice(&[1, 2, 2, 3, 4, 6, 9, 10, 511, 512]);
         let gaps = match kind {
             Kind::InOrder => 0,
             Kind::Late => script.random.choice(&[1, 2, 3, 6, 256]),
         };
         script.room(NUMBERS);
         script.fill(0);
-        script.open_fitting(kind, steps, gaps);
-        let most = script
-            .random
-            .choice(&[2, 4, 2 * steps as usize + 3])
-            .min(14);
+        script.open_fitting(kind, Size::Base(base), gaps);
+        let most = script.random.choice(&[2, 4, base as usize + 3]).min(14);
         let table = made::table(&mut script.random, kind, most);
         script.lay_sound(&table);
         match clause {
-            0 => script.other_steps(),
+            0 => script.other_base(),
             1 => script.other_gaps(),
             3 => {
                 let numbers = script.session.lent;
@@ -105,9 +102,9 @@ impl Script {
         script
     }
 
-    fn other_steps(&mut self) {
-        let steps = self.random.choice(&[0, 257, 258, 300, 900]);
-        self.state(Name::Steps, steps);
+    fn other_base(&mut self) {
+        let base = self.random.choice(&[0, 513, 513, 514, 600, 1_800]);
+        self.state(Name::Base, base);
         self.room(NUMBERS);
     }
 
@@ -121,7 +118,7 @@ impl Script {
         self.room(NUMBERS);
     }
 
-    fn every_call(&mut self) {
+    pub(super) fn every_call(&mut self) {
         let used = self.session.state.used;
         self.next(1);
         self.late(40, 1);
@@ -169,7 +166,7 @@ impl Script {
             ),
         ];
         for (runs, table) in in_order {
-            self.open_fitting(Kind::InOrder, 2, 0);
+            self.open_fitting(Kind::InOrder, Size::Steps(2), 0);
             self.lay(table, runs);
             self.next(4);
         }
@@ -184,7 +181,7 @@ impl Script {
             (2, &[[5, 1, 4, 4], [6, 1, 4, 4], [7, 1, 4, 4], [9, 1, 4, 4]]),
         ];
         for (runs, table) in late {
-            self.open_fitting(Kind::Late, 1, 2);
+            self.open_fitting(Kind::Late, Size::Steps(1), 2);
             self.lay(table, runs);
             self.next(4);
             self.lookup(5);
@@ -193,21 +190,21 @@ impl Script {
         // Every field moved by 2^32, which its lowest 32 bits do not show.
         for field in 0..2 * SLOT {
             for far in [1 << 32, -1 << 32] {
-                self.open_fitting(Kind::InOrder, 2, 0);
+                self.open_fitting(Kind::InOrder, Size::Steps(2), 0);
                 let table = [[0, 3, -1, 1], [3, 2, 7, 8]];
                 self.lay(&table, 1);
                 self.set(field, table[field / SLOT][field % SLOT] + far);
                 self.every_call();
             }
         }
-        // B and K above their bounds, in room enough.
+        // C and K above their bounds, in room enough.
         for kind in [Kind::InOrder, Kind::Late] {
-            self.open(kind, 256, 256, NUMBERS);
-            let fitting = calls::needed_numbers(kind, MOST_STEPS, MOST_GAPS);
+            self.open(kind, Size::Base(MOST_BASE), MOST_GAPS, NUMBERS);
+            let fitting = calls::needed_numbers(kind, MOST_BASE, MOST_GAPS);
             for at in fitting..fitting + 2 * SLOT {
                 self.set(at, 0);
             }
-            for (name, most) in [(Name::Steps, MOST_STEPS), (Name::Gaps, MOST_GAPS)] {
+            for (name, most) in [(Name::Base, MOST_BASE), (Name::Gaps, MOST_GAPS)] {
                 self.state(name, most + 1);
                 self.every_call();
                 self.state(name, most);

@@ -1,13 +1,22 @@
-//! The promise on error: no curve of at most B flat steps comes closer than the picture does.
+//! The promise on error: no curve of at most (C + 1) / 2 flat steps, rounded down, comes closer than the picture does.
 
 use crate::support::{random_value, Trace};
-use second::calls::{Refusal, RUNS, TAKEN};
+use second::arrivals::{self, PERTURBATION};
+use second::calls::{Refusal, Size::Base, MOST_BASE, MOST_GAPS, RUNS, TAKEN};
 use second::random::Random;
-use second::rule::{worst_error, Kind};
+use second::rule::{self, worst_error, Bucket, Kind};
 use std::collections::BTreeMap;
 
-const TABLES_OF_A_KIND: u64 = 10_000;
+/// Of each base limit as many; half of them are odd.
+const TABLES_OF_A_KIND: u64 = 18_000;
+const BASES: u64 = 8;
 const READINGS: u64 = 24;
+/// Tables of odd C in which something was merged, of each kind.
+const ODD_AND_MERGED: u64 = 5_000;
+
+fn promised(base: u64) -> u64 {
+    base.div_ceil(2)
+}
 
 /// The least worst error of a curve of at most this many flat steps at whole levels.
 fn best_error(values: &[i64], steps: u64) -> i64 {
@@ -29,11 +38,30 @@ fn best_error(values: &[i64], steps: u64) -> i64 {
     best[values.len()]
 }
 
+/// Whether some curve of at most this many flat steps has a lesser worst error: each step as long as it can be.
+fn is_beaten(values: &[i64], steps: u64, worst: i64) -> bool {
+    let spread = 2 * (worst - 1);
+    let mut needed = 0;
+    let (mut least, mut largest) = (i64::MAX, i64::MIN);
+    for &value in values {
+        (least, largest) = (least.min(value), largest.max(value));
+        if needed == 0 || largest - least > spread {
+            needed += 1;
+            (least, largest) = (value, value);
+        }
+    }
+    worst > 0 && needed <= steps
+}
+
 #[test]
 fn in_order() {
     let mut random = Random::new(41);
-    for _ in 0..TABLES_OF_A_KIND {
-        let mut trace = Trace::open(Kind::InOrder, random.between(1, 4) as u64, 0);
+    let mut odd = 0;
+    // Those that one step more would beat, of even C and of odd.
+    let mut beaten = [0; 2];
+    for number in 0..TABLES_OF_A_KIND {
+        let base = 1 + number % BASES;
+        let mut trace = Trace::open(Kind::InOrder, Base(base), 0);
         let mut accepted = BTreeMap::new();
         for tick in 0..random.below(READINGS) as u32 {
             let value = random_value(&mut random);
@@ -44,19 +72,27 @@ fn in_order() {
             }
             check(&trace, &accepted);
         }
+        odd += u64::from(base % 2 == 1 && trace.tally.merges > 0);
+        let values: Vec<i64> = accepted.values().copied().collect();
+        let worst = worst_error(&trace.buckets());
+        beaten[base as usize % 2] += u64::from(is_beaten(&values, promised(base) + 1, worst));
     }
+    assert!(odd >= ODD_AND_MERGED, "{odd}");
+    // Seldom of even C, where a step more would need one bucket more; of odd C it would need two.
+    assert!(beaten[0] >= 5 && beaten[1] >= 1_000, "{beaten:?}");
 }
 
 #[test]
 fn late() {
     let mut random = Random::new(42);
-    for _ in 0..TABLES_OF_A_KIND {
-        let steps = random.between(1, 4) as u64;
+    let mut odd = 0;
+    for number in 0..TABLES_OF_A_KIND {
+        let base = 1 + number % BASES;
         let gaps = random.between(1, 5) as u64;
-        let mut trace = Trace::open(Kind::Late, steps, gaps);
+        let mut trace = Trace::open(Kind::Late, Base(base), gaps);
         let mut accepted = BTreeMap::new();
-        let ticks = random.between(2, 30) as u64;
-        for _ in 0..random.below(2 * READINGS) {
+        let ticks = random.between(base as i64, 30) as u64;
+        for _ in 0..random.between(1, 3 * READINGS as i64) {
             let (tick, value) = (random.below(ticks) as u32, random_value(&mut random));
             let before = trace.clone();
             let answer = trace.late(tick, value);
@@ -79,19 +115,86 @@ fn late() {
             }
             check(&trace, &accepted);
         }
+        odd += u64::from(base % 2 == 1 && trace.tally.merges > 0);
+    }
+    assert!(odd >= ODD_AND_MERGED, "{odd}");
+}
+
+#[test]
+fn of_every_base_limit() {
+    let mut random = Random::new(43);
+    for base in 1..=MOST_BASE {
+        let readings = base as usize + random.between(1, 60) as usize;
+        let values: Vec<i32> = (0..readings).map(|_| random_value(&mut random)).collect();
+        let in_order = Trace::in_order(Base(base), &values);
+        let delays = PERTURBATION.delays(readings, &mut random);
+        let mut late = Trace::open(Kind::Late, Base(base), MOST_GAPS);
+        for tick in arrivals::order(&delays) {
+            late.late(tick, values[tick as usize]).unwrap();
+        }
+        let values: Vec<i64> = values.into_iter().map(i64::from).collect();
+        for trace in [in_order, late] {
+            assert_eq!(trace.state.base, base);
+            let worst = worst_error(&trace.buckets());
+            assert!(!is_beaten(&values, promised(base), worst), "{base}");
+        }
     }
 }
 
 #[test]
 fn in_order_one_step_more_is_not_promised() {
-    let values = [8, 1, -3, -9];
-    let trace = Trace::in_order(1, &values);
-    let wide: Vec<i64> = values.iter().map(|&value| i64::from(value)).collect();
-    let ours = worst_error(&trace.buckets());
-    assert_eq!(
-        (ours, best_error(&wide, 1), best_error(&wide, 2)),
-        (5, 9, 4)
-    );
+    for (base, values, errors) in [
+        (1, &[-2, -6][..], (2, 2, 0)),
+        (2, &[8, 1, -3, -9], (5, 9, 4)),
+        (3, &[7, 0, -7, 0, 3, 9], (5, 7, 4)),
+    ] {
+        let trace = Trace::in_order(Base(base), values);
+        let wide: Vec<i64> = values.iter().map(|&value| i64::from(value)).collect();
+        let ours = worst_error(&trace.buckets());
+        let steps = promised(base);
+        let [best, better] = [steps, steps + 1].map(|steps| best_error(&wide, steps));
+        assert_eq!((ours, best, better), errors, "C = {base}");
+    }
+}
+
+/// The table of these readings by the rule, with another limit.
+fn table_of(
+    readings: &BTreeMap<u32, i64>,
+    order: &[u32],
+    limit: impl Fn(u64) -> u64,
+) -> Vec<Bucket> {
+    let mut table = Vec::new();
+    for tick in order {
+        rule::insertion(&mut table, u64::from(*tick), readings[tick]);
+        while table.len() as u64 > limit(rule::runs(&table)) {
+            let Some(first) = rule::cheapest_neighbours(&table) else {
+                break;
+            };
+            rule::merge(&mut table, first);
+        }
+    }
+    table
+}
+
+#[test]
+fn late_a_limit_without_the_runs_breaks_the_promise() {
+    let mut random = Random::new(44);
+    // Tables with a worse error than the best curve, of even C and of odd.
+    let mut broken = [0; 2];
+    for number in 0..TABLES_OF_A_KIND {
+        let base = 1 + number % BASES;
+        let mut ticks = arrivals::shuffled(READINGS as usize, &mut random);
+        ticks.truncate(random.between(1, READINGS as i64) as usize);
+        let mut reading = |&tick: &u32| (tick, i64::from(random_value(&mut random)));
+        let readings: BTreeMap<u32, i64> = ticks.iter().map(&mut reading).collect();
+        let values: Vec<i64> = readings.values().copied().collect();
+        let worst = |limit: &dyn Fn(u64) -> u64| worst_error(&table_of(&readings, &ticks, limit));
+        let right = worst(&|runs| base + runs);
+        assert!(!is_beaten(&values, promised(base), right));
+        let wrong = worst(&|_| base);
+        broken[base as usize % 2] += u64::from(is_beaten(&values, promised(base), wrong));
+    }
+    assert!(broken.iter().all(|&tables| tables >= 100), "{broken:?}");
 }
 
 fn runs_of(accepted: &BTreeMap<u32, i64>) -> u64 {
@@ -104,8 +207,8 @@ fn check(trace: &Trace, accepted: &BTreeMap<u32, i64>) {
     let buckets = trace.buckets();
     let runs = runs_of(accepted);
     let limit = match state.kind {
-        Kind::InOrder => 2 * state.steps,
-        Kind::Late => 2 * state.steps + runs,
+        Kind::InOrder => state.base,
+        Kind::Late => state.base + runs,
     };
     assert!(buckets.len() as u64 <= limit);
     assert_eq!(state.runs, runs);
@@ -124,7 +227,9 @@ fn check(trace: &Trace, accepted: &BTreeMap<u32, i64>) {
     assert!(covered.iter().eq(accepted.keys()));
 
     let values: Vec<i64> = accepted.values().copied().collect();
-    assert!(worst_error(&buckets) <= best_error(&values, state.steps));
+    let (worst, steps) = (worst_error(&buckets), promised(state.base));
+    assert!(worst <= best_error(&values, steps));
+    assert!(!is_beaten(&values, steps, worst));
 
     assert_eq!(trace.tally.accepted as usize, accepted.len());
     assert_eq!(trace.tally.merges as usize, accepted.len() - buckets.len());

@@ -21,7 +21,7 @@ struct Load<'a> {
 impl<'a> Load<'a> {
     fn of(tried: &Try<'a>) -> Load<'a> {
         let mut room = vec![OLD; tried.lent];
-        let answer = calls::load(tried.kind, tried.steps, tried.gaps, tried.file, &mut room);
+        let answer = calls::load(tried.kind, tried.size, tried.gaps, tried.file, &mut room);
         Load {
             place: tried.place,
             setting: tried.setting,

@@ -1,6 +1,7 @@
-//! The traces worked by hand, H1 to H12, one by one.
+//! The traces worked by hand, H1 to H12, one by one, and two of odd base limits.
 
 use crate::support::{bucket, Trace};
+use second::calls::Size::{Base, Steps};
 use second::calls::{self, Held, Refusal, RUNS, TAKEN};
 use second::rule;
 
@@ -9,7 +10,7 @@ const H8_OUTPUT: &str = "0 3 1 4 2\n3 2 8 9 8\n5 2 2 3 2\ntotal 7 3 2\n";
 
 fn h8() -> Trace {
     Trace::late_of(
-        1,
+        Steps(1),
         2,
         &[(0, 1), (1, 4), (2, 2), (3, 9), (6, 2), (5, 3), (4, 8)],
     )
@@ -17,7 +18,7 @@ fn h8() -> Trace {
 
 #[test]
 fn h1_an_empty_trace() {
-    let trace = Trace::in_order(32, &[]);
+    let trace = Trace::in_order(Steps(32), &[]);
     assert_eq!(trace.buckets(), []);
     assert_eq!(rule::worst_error(&trace.buckets()), 0);
     let listed = second::listing::list(&b""[..]).unwrap();
@@ -26,25 +27,25 @@ fn h1_an_empty_trace() {
 
 #[test]
 fn h2_three_joined_and_one_alone() {
-    let trace = Trace::in_order(1, &[1, 4, 2, 9]);
+    let trace = Trace::in_order(Steps(1), &[1, 4, 2, 9]);
     assert_eq!(trace.buckets(), [bucket(0, 3, 1, 4), bucket(3, 1, 9, 9)]);
 }
 
 #[test]
 fn h3_of_equal_unions_the_lowest_start() {
-    let trace = Trace::in_order(1, &[0, 1, 2]);
+    let trace = Trace::in_order(Steps(1), &[0, 1, 2]);
     assert_eq!(trace.buckets(), [bucket(0, 2, 0, 1), bucket(2, 1, 2, 2)]);
 }
 
 #[test]
 fn h4_of_equal_readings_the_lowest_start() {
-    let trace = Trace::in_order(1, &[5, 5, 5]);
+    let trace = Trace::in_order(Steps(1), &[5, 5, 5]);
     assert_eq!(trace.buckets(), [bucket(0, 2, 5, 5), bucket(2, 1, 5, 5)]);
 }
 
 #[test]
 fn h5_two_steps() {
-    let trace = Trace::in_order(2, &[0, 5, 9, 14, 18]);
+    let trace = Trace::in_order(Steps(2), &[0, 5, 9, 14, 18]);
     let buckets = trace.buckets();
     let borders: Vec<u64> = buckets.iter().skip(1).map(|next| next.start - 1).collect();
     assert_eq!(borders, [0, 2, 3]);
@@ -53,7 +54,7 @@ fn h5_two_steps() {
 
 #[test]
 fn h6_a_level_below_zero_is_rounded_down() {
-    let trace = Trace::in_order(1, &[-3, 0, 100]);
+    let trace = Trace::in_order(Steps(1), &[-3, 0, 100]);
     let held = Held {
         level: -2,
         error: 2,
@@ -65,7 +66,7 @@ fn h6_a_level_below_zero_is_rounded_down() {
 
 #[test]
 fn h7_the_whole_range_in_one_bucket() {
-    let trace = Trace::in_order(1, &[i32::MIN, i32::MAX, i32::MIN]);
+    let trace = Trace::in_order(Steps(1), &[i32::MIN, i32::MAX, i32::MIN]);
     let held = Held {
         level: -1,
         error: 2_147_483_648,
@@ -88,7 +89,7 @@ fn h8_the_late_trace_of_the_listing() {
 
 #[test]
 fn h9_a_run_closes_without_a_merge() {
-    let trace = Trace::late_of(1, 2, &[(0, 1), (2, 5), (1, 9)]);
+    let trace = Trace::late_of(Steps(1), 2, &[(0, 1), (2, 5), (1, 9)]);
     let expected = [bucket(0, 1, 1, 1), bucket(1, 1, 9, 9), bucket(2, 1, 5, 5)];
     assert_eq!(trace.buckets(), expected);
     assert_eq!(trace.tally.merges, 0);
@@ -115,9 +116,34 @@ fn h11_a_run_too_many() {
 
 #[test]
 fn h12_the_bytes_of_one_bucket() {
-    let trace = Trace::late_of(1, 1, &[(3, -2)]);
+    let trace = Trace::late_of(Steps(1), 1, &[(3, -2)]);
     let expected = [
         3, 0, 0, 0, 1, 0, 0, 0, 254, 255, 255, 255, 254, 255, 255, 255,
     ];
     assert_eq!(trace.saved(), expected);
+}
+
+#[test]
+fn one_step_in_all() {
+    let trace = Trace::in_order(Base(1), &[-2, -6]);
+    assert_eq!(trace.buckets(), [bucket(0, 2, -6, -2)]);
+    let trace = Trace::late_of(Base(1), 2, &[(4, 1), (0, 5), (1, 7), (3, 2), (2, 6)]);
+    assert_eq!(trace.buckets(), [bucket(0, 3, 5, 7), bucket(3, 2, 1, 2)]);
+}
+
+#[test]
+fn three_steps_in_order_and_three_and_a_run_late() {
+    let values = [7, 0, -7, 0, 3, 9];
+    let trace = Trace::in_order(Base(3), &values);
+    let expected = [bucket(0, 2, 0, 7), bucket(2, 1, -7, -7), bucket(3, 3, 0, 9)];
+    assert_eq!(trace.buckets(), expected);
+    let readings: Vec<(u32, i32)> = (0..).zip(values).collect();
+    let trace = Trace::late_of(Base(3), 1, &readings);
+    let expected = [
+        bucket(0, 2, 0, 7),
+        bucket(2, 1, -7, -7),
+        bucket(3, 2, 0, 3),
+        bucket(5, 1, 9, 9),
+    ];
+    assert_eq!(trace.buckets(), expected);
 }

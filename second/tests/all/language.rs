@@ -41,7 +41,7 @@ fn words_and_names_have_at_most_eight_letters() {
 }
 
 /// H2's trace, as the commands before what a test tries.
-const H2: &str = "room numbers=12\nopen kind=0 steps=1 gaps=0\nnext value=1\nnext value=4\nnext value=2\nnext value=9\n";
+const H2: &str = "room numbers=12\nopen kind=0 size=1 gaps=0\nnext value=1\nnext value=4\nnext value=2\nnext value=9\n";
 const H2_ROOM: [i64; 12] = [0, 3, 1, 4, 3, 1, 9, 9, 0, 0, 0, 0];
 
 /// The lines that these commands write after H2's.
@@ -76,10 +76,10 @@ fn readings_and_lookups_are_told_whole() {
             "worst"
         ]),
         [
-            "show 0 1 0 2 1 4 0 3 1 4 3 1 9 9 0 0 0 0".to_string(),
+            "show 0 2 0 2 1 4 0 3 1 4 3 1 9 9 0 0 0 0".to_string(),
             format!("lookup 0 0 2 2 1 4 room {room}"),
             format!("lookup 12 0 0 0 0 0 room {room}"),
-            format!("late 5 0 0 1 0 2 1 4 room {room}"),
+            format!("late 5 0 0 2 0 2 1 4 room {room}"),
             format!("worst 0 0 2 room {room}"),
         ]
     );
@@ -170,23 +170,24 @@ fn files_are_loaded_and_changed() {
     let told = told_after_h2(&[
         "save bytes=32",
         "take bytes=32",
-        "load steps=2",
+        "load size=2",
+        "load",
         "file bytes=31",
-        "load",
+        "load size=1",
         "file bytes=32",
-        "load",
+        "load size=2 by=9",
         // The second record's count.
         "byte at=20 value=0",
-        "load",
+        "load size=1",
         // The first record twice, so the second does not start at the end of the first.
         "copy from=0 to=1 count=1",
-        "load",
+        "load size=1",
         // Past the end nothing is copied and nothing put.
         "copy from=0 to=4095 count=2",
         "byte at=65536 value=1",
         "record at=4096 start=1",
         "record at=1 start=3 count=1 least=9 largest=9",
-        "load",
+        "load size=1",
     ]);
     let starts: Vec<&str> = told
         .iter()
@@ -197,24 +198,25 @@ fn files_are_loaded_and_changed() {
         [
             "save 0 0 2",
             "load 3 0 0 0 0 0 0 0",
+            "load 1 0 0 0 0 0 0 0",
             "load 7 0 0 0 0 0 0 0",
-            "load 0 0 0 1 0 2 1 4",
+            "load 0 0 0 2 0 2 1 4",
             "load 8 1 0 0 0 0 0 0",
             "load 8 1 0 0 0 0 0 0",
-            "load 0 0 0 1 0 2 1 4",
+            "load 0 0 0 2 0 2 1 4",
         ]
     );
     let bytes: Vec<i64> = [0, 3, 1, 4, 3, 1, 9, 9]
         .iter()
         .flat_map(|&number| [number, 0, 0, 0])
         .collect();
-    assert!(told[6].ends_with(&format!(" file {}", checksum(&bytes))));
+    assert!(told[7].ends_with(&format!(" file {}", checksum(&bytes))));
 }
 
 #[test]
 fn what_is_not_given_is_as_it_is_at_hand() {
     let zeros = checksum(&[0; 16]);
-    let script = "room numbers=16\nopen kind=9 steps=1 gaps=1\nstate kind=7\nnext value=5\nstate used=3\nshow\nstate used=0\nlate value=5\n";
+    let script = "room numbers=16\nopen kind=9 size=1 gaps=1\nstate kind=7\nnext value=5\nstate used=3\nshow\nstate used=0\nlate value=5\n";
     let lines = told::lines(script);
     let lines: Vec<&str> = lines.lines().collect();
     let mut numbers = [0; 16];
@@ -222,17 +224,41 @@ fn what_is_not_given_is_as_it_is_at_hand() {
     assert_eq!(
         lines,
         [
-            format!("open 0 0 1 1 1 0 0 0 room {zeros}"),
-            format!("next 5 0 7 1 1 0 0 0 room {zeros}"),
-            format!("show 7 1 1 3 0 0{}", " 0".repeat(16)),
-            format!("late 0 0 1 1 1 1 1 1 room {}", checksum(&numbers)),
+            format!("open 0 0 1 2 1 0 0 0 room {zeros}"),
+            format!("next 5 0 7 2 1 0 0 0 room {zeros}"),
+            format!("show 7 2 1 3 0 0{}", " 0".repeat(16)),
+            format!("late 0 0 1 2 1 1 1 1 room {}", checksum(&numbers)),
         ]
     );
 }
 
 #[test]
+fn size_is_b_where_by_is_0_and_else_c() {
+    let script = "room numbers=16\nopen size=1\nopen size=1 by=1\nopen size=3 by=18446744073709551615\nopen by=1\nopen\nopen size=9223372036854775809\nopen size=513 by=1\nopen size=3 by=2\nstate base=9\nshow\n";
+    let lines = told::lines(script);
+    let answers: Vec<&str> = lines
+        .lines()
+        .map(|line| line.split(" room").next().unwrap())
+        .collect();
+    let refused = "open 1 0 0 0 0 0 0 0";
+    let shown = format!("show 0 9 0 0 0 0{}", " 0".repeat(16));
+    let expected = [
+        "open 0 0 0 2 0 0 0 0",
+        "open 0 0 0 1 0 0 0 0",
+        "open 0 0 0 3 0 0 0 0",
+        refused,
+        refused,
+        refused,
+        refused,
+        "open 0 0 0 3 0 0 0 0",
+        &shown,
+    ];
+    assert_eq!(answers, expected);
+}
+
+#[test]
 fn told_readings_show_the_tally() {
-    let script = "room numbers=12\nopen steps=1\ntally accepted=4294967294 refused=7\nnexttold value=3\nnexttold value=3\nlatetold tick=9\n";
+    let script = "room numbers=12\nopen size=1\ntally accepted=4294967294 refused=7\nnexttold value=3\nnexttold value=3\nlatetold tick=9\n";
     let lines = told::lines(script);
     let tallies: Vec<&str> = lines
         .lines()

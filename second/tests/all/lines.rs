@@ -1,6 +1,7 @@
 //! The listing program's lines: what it reads, what it refuses, and where.
 
 use crate::support::{random_trace, Trace};
+use second::calls::Size;
 use second::classes::classes;
 use second::listing::list;
 use second::long_lines::{self, READ};
@@ -127,8 +128,9 @@ fn the_listing_shows_what_the_calls_keep() {
     let mut random = Random::new(51);
     for _ in 0..2_000 {
         let settings = random_trace(&mut random).state;
-        let mut trace = Trace::open(settings.kind, settings.steps, settings.gaps);
-        let mut input = format!("steps {}\n", settings.steps);
+        let steps = settings.base.div_ceil(2);
+        let mut trace = Trace::open(settings.kind, Size::Steps(steps), settings.gaps);
+        let mut input = format!("steps {steps}\n");
         if settings.kind == Kind::Late {
             input += &format!("late {}\n", settings.gaps);
         }

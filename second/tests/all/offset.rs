@@ -1,7 +1,7 @@
 //! One number added to all readings: the same answers, every level, least and largest moved by that number, the errors as they were; and the same first
 //! bucket over a bar that is moved too.
 
-use crate::support::Trace;
+use crate::support::{random_size, Trace};
 use second::calls::{self, Held};
 use second::random::Random;
 use second::rule::{Bucket, Kind};
@@ -50,10 +50,11 @@ fn an_offset_moves_every_level() {
             _ => random.between(-20, 20),
         };
         let kind = random.choice(&[Kind::InOrder, Kind::Late]);
-        let [steps, gaps] = [(); 2].map(|()| random.between(1, 4) as u64);
+        let size = random_size(&mut random);
+        let gaps = random.between(1, 4) as u64;
         let gaps = if kind == Kind::Late { gaps } else { 0 };
-        let mut trace = Trace::open(kind, steps, gaps);
-        let mut other = Trace::open(kind, steps, gaps);
+        let mut trace = Trace::open(kind, size, gaps);
+        let mut other = Trace::open(kind, size, gaps);
         for _ in 0..random.below(40) {
             let tick = random.below(40) as u32;
             let value = fitting_value(&mut random, offset);

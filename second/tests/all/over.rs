@@ -1,7 +1,7 @@
 //! Where a trace first goes over a bar: worked by hand, and against a look at every tick of the range.
 
 use crate::support::{loaded, random_trace, random_value, Trace};
-use second::calls;
+use second::calls::{self, Size::Steps};
 use second::random::Random;
 use second::rule::{Bucket, Kind, TICKS};
 
@@ -11,7 +11,7 @@ const LAST: u32 = TICKS as u32 - 1;
 fn worked_late() -> Trace {
     loaded(
         Kind::Late,
-        1,
+        Steps(1),
         2,
         &[(0, 3, -1, 4), (3, 2, 8, 9), (7, 2, 2, 9)],
     )
@@ -20,7 +20,7 @@ fn worked_late() -> Trace {
 fn worked_in_order() -> Trace {
     loaded(
         Kind::InOrder,
-        2,
+        Steps(2),
         0,
         &[(0, 3, -1, 4), (3, 2, 8, 9), (5, 2, 2, 9)],
     )
@@ -80,8 +80,8 @@ fn no_bucket_of_the_range_is_over() {
         );
     }
     for empty in [
-        Trace::open(Kind::InOrder, 1, 0),
-        Trace::open(Kind::Late, 1, 1),
+        Trace::open(Kind::InOrder, Steps(1), 0),
+        Trace::open(Kind::Late, Steps(1), 1),
     ] {
         assert_eq!(asked(&empty, 0, LAST, i32::MIN), None);
     }
@@ -89,7 +89,7 @@ fn no_bucket_of_the_range_is_over() {
 
 #[test]
 fn readings_at_the_ends_of_their_range() {
-    let trace = Trace::in_order(2, &[i32::MIN, i32::MAX, i32::MIN]);
+    let trace = Trace::in_order(Steps(2), &[i32::MIN, i32::MAX, i32::MIN]);
     assert_eq!(asked(&trace, 0, 2, i32::MIN), Some((0, 0)));
     assert_eq!(asked(&trace, 0, 2, i32::MIN + 1), Some((1, 1)));
     assert_eq!(asked(&trace, 0, 2, i32::MAX), Some((1, 1)));
@@ -100,7 +100,7 @@ fn readings_at_the_ends_of_their_range() {
 #[test]
 fn the_last_tick_of_all() {
     let records = [(0, 1, 7, 7), (LAST - 1, 2, 3, 5)];
-    let trace = loaded(Kind::Late, 1, 2, &records);
+    let trace = loaded(Kind::Late, Steps(1), 2, &records);
     let hit = Some((1, u64::from(LAST) - 1));
     assert_eq!(asked(&trace, LAST, LAST, 5), hit);
     assert_eq!(asked(&trace, 1, LAST, 5), hit);

@@ -4,15 +4,16 @@ use crate::sound::is_sound;
 use crate::support::{
     bytes_of, loaded, random_trace, random_value, Trace, MARK, MARK_BYTE, MARK_RECORD,
 };
+use second::calls::Size::{Base, Steps};
 use second::calls::{self, *};
 use second::random::Random;
 use second::rule::{Kind, TICKS};
 
 const FULL: &[(u32, u32, i32, i32)] = &[(0, TICKS as u32, 0, 5)];
 
-fn load_answer(kind: Kind, steps: u64, gaps: u64, bytes: &[u8]) -> Result<State, Refusal> {
+fn load_answer(kind: Kind, size: Size, gaps: u64, bytes: &[u8]) -> Result<State, Refusal> {
     let mut room = vec![MARK; 769 * SLOT];
-    let answer = calls::load(kind, steps, gaps, bytes, &mut room);
+    let answer = calls::load(kind, size, gaps, bytes, &mut room);
     if answer.is_err() {
         assert!(room.iter().all(|&number| number == MARK));
     }
@@ -21,26 +22,39 @@ fn load_answer(kind: Kind, steps: u64, gaps: u64, bytes: &[u8]) -> Result<State,
 
 #[test]
 fn open_refuses_1_2_3_in_order() {
-    let number = |kind, steps, gaps, numbers| {
+    let number = |kind, size, gaps, numbers| {
         let mut room = vec![MARK; numbers];
-        let answer = calls::open(kind, steps, gaps, &mut room);
+        let answer = calls::open(kind, size, gaps, &mut room);
         if answer.is_err() {
             assert!(room.iter().all(|&number| number == MARK));
         }
         answer.err().map(|refusal| refusal.number)
     };
-    for steps in [0, 257, u64::MAX] {
-        assert_eq!(number(Kind::Late, steps, 0, 0), Some(STEPS));
-        assert_eq!(number(Kind::InOrder, steps, 0, 0), Some(STEPS));
+    let wide = [1 << 32, (1 << 63) + 1, (1 << 63) + 32, u64::MAX];
+    let steps = [0, 257, (1 << 31) + 1].into_iter().chain(wide).map(Steps);
+    let bases = [0, 513, (1 << 32) + 1].into_iter().chain(wide).map(Base);
+    for size in steps.chain(bases) {
+        assert_eq!(number(Kind::Late, size, 0, 0), Some(STEPS));
+        assert_eq!(number(Kind::InOrder, size, 0, 3_076), Some(STEPS));
     }
     for gaps in [0, 257, u64::MAX] {
-        assert_eq!(number(Kind::Late, 1, gaps, 0), Some(GAPS));
-        assert_eq!(number(Kind::InOrder, 1, gaps, 0), Some(ROOM));
+        for size in [Steps(1), Base(1)] {
+            assert_eq!(number(Kind::Late, size, gaps, 0), Some(GAPS));
+            assert_eq!(number(Kind::InOrder, size, gaps, 0), Some(ROOM));
+        }
     }
-    assert_eq!(number(Kind::InOrder, 1, 9, 11), Some(ROOM));
-    assert_eq!(number(Kind::InOrder, 1, 9, 12), None);
-    assert_eq!(number(Kind::Late, 256, 256, 769 * 4 - 1), Some(ROOM));
-    assert_eq!(number(Kind::Late, 256, 256, 769 * 4), None);
+    for (kind, size, gaps, slots) in [
+        (Kind::InOrder, Steps(1), 9, 3),
+        (Kind::InOrder, Base(1), 9, 2),
+        (Kind::InOrder, Base(63), 9, 64),
+        (Kind::Late, Base(1), 1, 3),
+        (Kind::Late, Base(511), 256, 768),
+        (Kind::Late, Steps(256), 256, 769),
+        (Kind::Late, Base(512), 256, 769),
+    ] {
+        assert_eq!(number(kind, size, gaps, slots * 4 - 1), Some(ROOM));
+        assert_eq!(number(kind, size, gaps, slots * 4), None);
+    }
 }
 
 #[test]
@@ -48,12 +62,20 @@ fn load_refuses_1_2_3_7_8_9_10_in_order() {
     let odd = [0; 15];
     let mut short = [MARK; 4];
     let late = Kind::Late;
-    for (steps, gaps, number) in [(0, 0, STEPS), (1, 0, GAPS), (1, 1, ROOM)] {
-        let answer = calls::load(late, steps, gaps, &odd, &mut short);
+    for (size, gaps, number) in [
+        (Steps(0), 0, STEPS),
+        (Base(513), 0, STEPS),
+        (Base(1), 0, GAPS),
+        (Base(1), 1, ROOM),
+    ] {
+        let answer = calls::load(late, size, gaps, &odd, &mut short);
         assert_eq!(answer, Err(Refusal::of(number)));
     }
-    assert_eq!(load_answer(late, 1, 1, &odd), Err(Refusal::of(LENGTH)));
-    // Five records in three runs for B = 1 and K = 2: faulty, then too many runs, then too many.
+    assert_eq!(
+        load_answer(late, Steps(1), 1, &odd),
+        Err(Refusal::of(LENGTH))
+    );
+    // Five records in three runs for C = 2 and K = 2: faulty, then too many runs, then too many.
     let mut records = [
         (0, 1, 3, 3),
         (1, 1, 3, 3),
@@ -65,18 +87,22 @@ fn load_refuses_1_2_3_7_8_9_10_in_order() {
         number: RECORD,
         place: 4,
     };
-    assert_eq!(load_answer(late, 1, 2, &bytes_of(&records)), Err(fault));
+    assert_eq!(
+        load_answer(late, Base(2), 2, &bytes_of(&records)),
+        Err(fault)
+    );
     records[4] = (8, 2, 3, 4);
-    let answer = load_answer(late, 1, 2, &bytes_of(&records));
+    let answer = load_answer(late, Base(2), 2, &bytes_of(&records));
     assert_eq!(answer, Err(Refusal::of(RUNS)));
     records[4] = (6, 2, 3, 4);
-    let answer = load_answer(late, 1, 2, &bytes_of(&records));
+    let answer = load_answer(late, Base(2), 2, &bytes_of(&records));
     assert_eq!(answer, Err(Refusal::of(OVERFULL)));
-    let answer = load_answer(late, 2, 2, &bytes_of(&records));
+    let answer = load_answer(late, Base(3), 2, &bytes_of(&records));
     assert_eq!(answer.map(|state| state.runs), Ok(2));
     let in_order = bytes_of(&[(0, 1, 3, 3), (1, 1, 3, 3), (2, 1, 3, 3)]);
-    let answer = load_answer(Kind::InOrder, 1, 0, &in_order);
-    assert_eq!(answer, Err(Refusal::of(OVERFULL)));
+    let answer = |base| load_answer(Kind::InOrder, Base(base), 0, &in_order);
+    assert_eq!(answer(2), Err(Refusal::of(OVERFULL)));
+    assert_eq!(answer(3).map(|state| state.used), Ok(3));
 }
 
 #[test]
@@ -98,11 +124,11 @@ fn each_record_rule_is_refused_at_its_index() {
             number: RECORD,
             place: 1,
         };
-        assert_eq!(load_answer(kind, 9, 9, &bytes), Err(refusal));
+        assert_eq!(load_answer(kind, Steps(9), 9, &bytes), Err(refusal));
     }
-    let answer = load_answer(Kind::InOrder, 9, 9, &bytes_of(&[(1, 1, 0, 0)]));
+    let answer = load_answer(Kind::InOrder, Steps(9), 9, &bytes_of(&[(1, 1, 0, 0)]));
     assert_eq!(answer.unwrap_err().number, RECORD);
-    let answer = load_answer(Kind::Late, 9, 9, &bytes_of(&[(last, 1, 0, 0)]));
+    let answer = load_answer(Kind::Late, Steps(9), 9, &bytes_of(&[(last, 1, 0, 0)]));
     assert_eq!(answer.map(|state| state.readings), Ok(1));
 }
 
@@ -110,7 +136,7 @@ fn each_record_rule_is_refused_at_its_index() {
 fn readings_refuse_4_5_6_11_9_in_order() {
     let number = |answer: Result<State, Refusal>| answer.map_err(|refusal| refusal.number);
     let beyond = TICKS as u32;
-    let mut late = loaded(Kind::Late, 1, 1, FULL);
+    let mut late = loaded(Kind::Late, Steps(1), 1, FULL);
     let mut unsound = late.state;
     unsound.readings += 1;
     let room = &mut late.room;
@@ -123,7 +149,7 @@ fn readings_refuse_4_5_6_11_9_in_order() {
         number(calls::late(late.state, room, beyond - 1, 0)),
         Err(TAKEN)
     );
-    let mut in_order = loaded(Kind::InOrder, 1, 0, FULL);
+    let mut in_order = loaded(Kind::InOrder, Steps(1), 0, FULL);
     let room = &mut in_order.room;
     assert_eq!(
         number(calls::late(in_order.state, room, beyond, 0)),
@@ -131,7 +157,7 @@ fn readings_refuse_4_5_6_11_9_in_order() {
     );
     assert_eq!(number(calls::next(in_order.state, room, 0)), Err(TICK));
     // At the most runs a taken tick is still told apart from a run too many.
-    let mut most_runs = Trace::late_of(1, 2, &[(0, 1), (5, 2)]);
+    let mut most_runs = Trace::late_of(Steps(1), 2, &[(0, 1), (5, 2)]);
     assert_eq!(most_runs.late(5, 3), Err(Refusal::of(TAKEN)));
     assert_eq!(most_runs.late(9, 3), Err(Refusal::of(RUNS)));
     assert_eq!(most_runs.late(beyond, 3), Err(Refusal::of(TICK)));
@@ -140,7 +166,7 @@ fn readings_refuse_4_5_6_11_9_in_order() {
 
 #[test]
 fn the_last_tick_is_taken_and_none_after_it() {
-    let mut trace = loaded(Kind::InOrder, 1, 0, &[(0, TICKS as u32 - 1, 0, 5)]);
+    let mut trace = loaded(Kind::InOrder, Steps(1), 0, &[(0, TICKS as u32 - 1, 0, 5)]);
     trace.next(9).unwrap();
     assert_eq!(trace.state.readings, TICKS);
     assert_eq!(trace.next(9), Err(Refusal::of(TICK)));
@@ -148,7 +174,7 @@ fn the_last_tick_is_taken_and_none_after_it() {
 
 #[test]
 fn lookup_row_and_save_refuse_in_order() {
-    let trace = Trace::late_of(1, 2, &[(0, 1), (5, 2)]);
+    let trace = Trace::late_of(Steps(1), 2, &[(0, 1), (5, 2)]);
     let mut unsound = trace.state;
     unsound.runs = 1;
     let number = |state, tick| {
@@ -174,7 +200,7 @@ fn lookup_row_and_save_refuse_in_order() {
 
 #[test]
 fn a_search_refuses_4_and_then_6() {
-    let trace = Trace::late_of(1, 2, &[(0, 1), (5, 2)]);
+    let trace = Trace::late_of(Steps(1), 2, &[(0, 1), (5, 2)]);
     let mut unsound = trace.state;
     unsound.runs = 1;
     let asked = |state, first, last| calls::first_over(state, &trace.room, first, last, 1);
@@ -198,7 +224,7 @@ fn a_search_refuses_4_and_then_6() {
 
 #[test]
 fn the_tally_stops_at_its_largest_number() {
-    let mut trace = Trace::in_order(1, &[1, 2]);
+    let mut trace = Trace::in_order(Steps(1), &[1, 2]);
     trace.tally = Tally {
         accepted: u32::MAX,
         refused: u32::MAX,
@@ -209,7 +235,7 @@ fn the_tally_stops_at_its_largest_number() {
     assert_eq!(trace.late(9, 3), Err(Refusal::of(KIND)));
     assert_eq!(trace.tally, full);
     // Two merges at once, with one left to count.
-    let mut closing = Trace::late_of(1, 2, &[(0, 0), (1, 9), (3, 0), (4, 9)]);
+    let mut closing = Trace::late_of(Steps(1), 2, &[(0, 0), (1, 9), (3, 0), (4, 9)]);
     closing.tally.merges = u32::MAX - 1;
     closing.late(2, 4).unwrap();
     assert_eq!(closing.state.used, 3);
@@ -247,7 +273,19 @@ fn random_size(random: &mut Random) -> u64 {
     match random.below(4) {
         0 => random.number(),
         1 => u64::MAX - random.below(3),
-        2 => random.choice(&[255, 256, 257, TICKS - 1, TICKS, 1 << 31, 1 << 32, 1 << 62]),
+        2 => random.choice(&[
+            255,
+            256,
+            257,
+            511,
+            512,
+            513,
+            TICKS - 1,
+            TICKS,
+            1 << 31,
+            1 << 32,
+            1 << 62,
+        ]),
         _ => random.below(6),
     }
 }
@@ -255,7 +293,7 @@ fn random_size(random: &mut Random) -> u64 {
 fn random_state(random: &mut Random) -> State {
     State {
         kind: random.choice(&[Kind::InOrder, Kind::Late]),
-        steps: random_size(random),
+        base: random_size(random),
         gaps: random_size(random),
         used: random_size(random),
         runs: random_size(random),
@@ -284,7 +322,7 @@ fn damage(trace: &mut Trace, random: &mut Random) {
         }
     };
     match random.below(12) {
-        0 => spoil(&mut state.steps),
+        0 => spoil(&mut state.base),
         1 => spoil(&mut state.gaps),
         2 => spoil(&mut state.used),
         3 => spoil(&mut state.runs),
@@ -414,7 +452,7 @@ fn reading_call(
             assert_eq!(expected, None);
             assert!(is_sound(after, &room_after));
             assert_eq!(after.readings, state.readings + 1);
-            let needed = needed_slots(state.kind, state.steps, state.gaps) * SLOT;
+            let needed = needed_slots(state.kind, state.base, state.gaps) * SLOT;
             assert_eq!(room_after[needed..], room[needed..]);
             assert_eq!((tally.accepted, tally.refused), (1, 0));
             assert_eq!(u64::from(tally.merges), state.used + 1 - after.used);
@@ -422,25 +460,26 @@ fn reading_call(
     }
 }
 
-/// Open and load with the state's settings; the bytes are junk too.
+/// Open and load with the state's settings, its base limit taken as B or as C; the bytes are junk too.
 fn settings_calls(state: State, room: &[i64], random: &mut Random) {
     let State {
-        kind, steps, gaps, ..
+        kind, base, gaps, ..
     } = state;
+    let size = random.choice(&[Steps(base), Base(base)]);
     let length: usize = random.choice(&[0, 1, 15, 16, 17, 32, 48]);
     let bytes: Vec<u8> = (0..length)
         .map(|_| random.choice(&[0, 0, 0, 1, 255]))
         .collect();
     let mut opened_room = room.to_vec();
-    let opened = calls::open(kind, steps, gaps, &mut opened_room);
+    let opened = calls::open(kind, size, gaps, &mut opened_room);
     let mut loaded_room = room.to_vec();
-    let loaded = calls::load(kind, steps, gaps, &bytes, &mut loaded_room);
+    let loaded = calls::load(kind, size, gaps, &bytes, &mut loaded_room);
     for (answer, room_after) in [(opened, &opened_room), (loaded, &loaded_room)] {
         match answer {
             Err(_) => assert_eq!(room_after, room),
             Ok(after) => {
                 assert!(is_sound(after, room_after));
-                let needed = needed_slots(kind, steps, after.gaps) * SLOT;
+                let needed = needed_slots(kind, after.base, after.gaps) * SLOT;
                 assert_eq!(room_after[needed..], room[needed..]);
             }
         }

@@ -1,6 +1,7 @@
 //! Saved and loaded a trace is the same trace, and what loads saves to the same bytes.
 
-use crate::support::{marked_room, random_trace, random_value, Trace};
+use crate::support::{marked_room, random_size, random_trace, random_value, Trace};
+use second::calls::Size::{self, Base, Steps};
 use second::calls::{self, RECORD_BYTES};
 use second::random::Random;
 use second::rule::{Kind, TICKS};
@@ -31,11 +32,11 @@ fn bytes_that_load_save_to_the_same_bytes() {
     let mut loads = 0;
     for _ in 0..20_000 {
         let kind = random.choice(&[Kind::InOrder, Kind::Late]);
-        let steps = random.between(1, 4) as u64;
+        let size = random_size(&mut random);
         let gaps = random.between(1, 4) as u64;
         let bytes = random_records(&mut random, kind);
-        let mut room = marked_room(Kind::Late, steps, gaps);
-        let Ok(state) = calls::load(kind, steps, gaps, &bytes, &mut room) else {
+        let mut room = marked_room(Kind::Late, size, gaps);
+        let Ok(state) = calls::load(kind, size, gaps, &bytes, &mut room) else {
             continue;
         };
         loads += 1;
@@ -47,14 +48,55 @@ fn bytes_that_load_save_to_the_same_bytes() {
     assert!(loads > 5_000, "too few of the random files load: {loads}");
 }
 
+/// The trace's file loaded by this size into a room that is long enough for one step more.
+fn loaded_by(trace: &Trace, size: Size) -> Result<Trace, calls::Refusal> {
+    let state = trace.state;
+    let mut room = marked_room(state.kind, Base(state.base + 1), state.gaps);
+    let state = calls::load(state.kind, size, state.gaps, &trace.saved(), &mut room)?;
+    let tally = trace.tally;
+    Ok(Trace { state, room, tally })
+}
+
+#[test]
+fn b_is_c_of_2b_and_one_more_or_less_is_not() {
+    let mut random = Random::new(23);
+    let (mut even, mut refused) = (0, 0);
+    for _ in 0..5_000 {
+        let trace = random_trace(&mut random);
+        let base = trace.state.base;
+        let by_base = loaded_by(&trace, Base(base)).unwrap();
+        assert_eq!(by_base.state, trace.state);
+        if base % 2 == 0 {
+            assert_eq!(loaded_by(&trace, Steps(base / 2)), Ok(by_base));
+            even += 1;
+        }
+        let more = loaded_by(&trace, Base(base + 1)).unwrap();
+        assert_eq!(more.state.base, base + 1);
+        assert_eq!(more.buckets(), trace.buckets());
+        let full = match trace.state.kind {
+            Kind::InOrder => trace.state.used == base,
+            Kind::Late => trace.state.used == base + trace.state.runs,
+        };
+        let less = loaded_by(&trace, Base(base - 1)).map(|less| less.state.base);
+        let expected = match (base, full) {
+            (1, _) => Err(calls::Refusal::of(calls::STEPS)),
+            (_, true) => Err(calls::Refusal::of(calls::OVERFULL)),
+            _ => Ok(base - 1),
+        };
+        assert_eq!(less, expected);
+        refused += u64::from(less.is_err());
+    }
+    assert!(even > 2_000 && refused > 2_000, "{even} {refused}");
+}
+
 #[test]
 fn in_order_a_given_k_is_kept_as_0() {
-    let trace = Trace::in_order(2, &[1, 2, 3, 4, 5, 6]);
+    let trace = Trace::in_order(Steps(2), &[1, 2, 3, 4, 5, 6]);
     for gaps in [0, 5, 300, u64::MAX] {
-        let mut room = marked_room(Kind::InOrder, 2, 0);
-        let opened = calls::open(Kind::InOrder, 2, gaps, &mut room).unwrap();
+        let mut room = marked_room(Kind::InOrder, Steps(2), 0);
+        let opened = calls::open(Kind::InOrder, Steps(2), gaps, &mut room).unwrap();
         assert_eq!(opened.gaps, 0);
-        let loaded = calls::load(Kind::InOrder, 2, gaps, &trace.saved(), &mut room).unwrap();
+        let loaded = calls::load(Kind::InOrder, Base(4), gaps, &trace.saved(), &mut room).unwrap();
         assert_eq!((loaded, room), (trace.state, trace.room.clone()));
     }
 }

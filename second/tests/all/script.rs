@@ -4,11 +4,11 @@ use crate::sound::is_sound;
 use second::calls::Tally;
 use second::clauses::{self, CLAUSES};
 use second::command::{Command, Word};
-use second::counts::{self, REFUSALS};
+use second::counts::{self, Met, REFUSALS};
 use second::scripts::{self, chance};
 use second::searches::SORTS;
 use second::session::Session;
-use second::told;
+use second::{sizes, told};
 
 const CALLS: u64 = 20_000;
 
@@ -131,7 +131,7 @@ fn a_fresh_tally_of_an_opened_trace_has_a_merge_for_each_reading_without_a_bucke
 /// The sorts that one search of the late table (0, 3, -1 to 4), (3, 2, 8 to 9), (7, 2, 2 to 9) is counted as.
 fn sorts_of(search: &str) -> Vec<String> {
     let slots = "slot start=0 count=3 least=-1 largest=4\nslot at=1 start=3 count=2 least=8 largest=9\nslot at=2 start=7 count=2 least=2 largest=9";
-    let script = format!("room numbers=20\nopen kind=1 steps=1 gaps=2\n{slots}\nstate used=3 runs=2 readings=7\n{search}\n");
+    let script = format!("room numbers=20\nopen kind=1 size=1 gaps=2\n{slots}\nstate used=3 runs=2 readings=7\n{search}\n");
     let counts = told::obey(script.as_bytes(), &mut std::io::sink()).unwrap();
     let sort = |name: &String| name.strip_prefix("search: ").map(String::from);
     counts.met().keys().filter_map(sort).collect()
@@ -217,6 +217,115 @@ fn the_script_of_searches_meets_every_sort() {
     for (sort, _) in SORTS {
         let times = met.get(sort).copied().unwrap_or(0);
         assert!(times >= 100, "{sort}: {times}");
+    }
+}
+
+/// What the script meets of the sorts that B and C are told apart by.
+fn sizes_of(script: &str) -> Met {
+    let counts = told::obey(script.as_bytes(), &mut std::io::sink()).unwrap();
+    let mut met = counts.met();
+    met.retain(|name, _| sizes::wanted().contains_key(name));
+    met
+}
+
+#[test]
+fn calls_are_counted_as_what_they_are_of_b_and_c() {
+    let late = "room numbers=16\nopen kind=1 gaps=2 size=1 by=1\nlate tick=0\nlate tick=2\n";
+    let saved = "room numbers=20\nopen size=1\nnext value=4\nsave bytes=16\ntake bytes=16\n";
+    for (before, call, sorts) in [
+        (
+            "room numbers=12\n",
+            "open size=1",
+            &["open by 0", "open of B 1, in order"][..],
+        ),
+        (
+            "room numbers=8\n",
+            "open size=1 by=2",
+            &[
+                "open by 2",
+                "open of C 1, in order",
+                "open of odd C, in order",
+            ],
+        ),
+        (
+            "room numbers=99\n",
+            "open size=9223372036854775809",
+            &[
+                "open of B good in its lowest 32 bits",
+                "open of B that doubles to a good C in 64 bits",
+            ],
+        ),
+        (
+            "",
+            "load size=2147483649",
+            &["load of B that doubles to a good C in 32 bits"],
+        ),
+        (
+            "",
+            "load size=513 kind=1 gaps=2 by=1",
+            &["load of C 513, late"],
+        ),
+        (
+            "room numbers=15\n",
+            "open kind=1 gaps=2 size=1 by=1",
+            &["open a number short, late", "open short for want of K"],
+        ),
+        ("", "open kind=1 gaps=2 size=1 by=1", &[]),
+        (
+            late,
+            "late tick=1",
+            &[
+                "merged at C 1, late",
+                "merged at odd C, late",
+                "state of an odd base",
+            ],
+        ),
+        (
+            late,
+            "late tick=3",
+            &["filled at odd C, late", "state of an odd base"],
+        ),
+        (
+            saved,
+            "load size=2 by=1",
+            &[
+                "load by 1",
+                "load of C 2, in order",
+                "load of even C, in order",
+                "loaded by C, opened by B",
+            ],
+        ),
+        (
+            saved,
+            "load size=1 by=1",
+            &[
+                "load by 1",
+                "load of C 1, in order",
+                "load of odd C, in order",
+                "loaded by one less",
+            ],
+        ),
+        (
+            "room numbers=2200\nopen size=512 by=1\nstate base=513\n",
+            "worst",
+            &["state of base 513"],
+        ),
+    ] {
+        let mut met = sizes_of(&format!("{before}{call}\n"));
+        for (name, times) in sizes_of(before) {
+            *met.get_mut(&name).unwrap() -= times;
+        }
+        met.retain(|_, times| *times > 0);
+        assert!(met.keys().eq(sorts), "{call}: {met:?}");
+    }
+}
+
+#[test]
+fn the_script_of_base_limits_meets_every_sort() {
+    let met = sizes_of(&scripts::of_name("base").unwrap().text);
+    for sort in sizes::wanted().keys() {
+        let times = met.get(sort).copied().unwrap_or(0);
+        assert!(times >= 50, "{sort}: {times}");
     }
 }
 

@@ -6,7 +6,7 @@ use second::rule::Kind;
 pub fn is_sound(state: State, room: &[i64]) -> bool {
     let late = state.kind == Kind::Late;
     let wide = |number: u64| i128::from(number);
-    let in_bounds = 1 <= state.steps && state.steps <= 256;
+    let in_bounds = 1 <= state.base && state.base <= 512;
     let gaps_in_bounds = if late {
         1 <= state.gaps && state.gaps <= 256
     } else {
@@ -15,7 +15,7 @@ pub fn is_sound(state: State, room: &[i64]) -> bool {
     if !in_bounds || !gaps_in_bounds {
         return false;
     }
-    let needed = 2 * wide(state.steps) + wide(state.gaps) + 1;
+    let needed = wide(state.base) + wide(state.gaps) + 1;
     let long_enough = room.len() as i128 >= needed * SLOT as i128;
     if !long_enough || wide(state.used) > needed {
         return false;
@@ -46,7 +46,7 @@ pub fn is_sound(state: State, room: &[i64]) -> bool {
         readings += count;
         end = start + count;
     }
-    let limit = 2 * wide(state.steps) + if late { runs } else { 0 };
+    let limit = wide(state.base) + if late { runs } else { 0 };
     wide(state.used) <= limit
         && (!late || runs <= wide(state.gaps))
         && wide(state.runs) == runs

@@ -1,5 +1,6 @@
 //! What the tests share: a trace with its own room and tally, and random readings and traces.
 
+use second::calls::Size::{self, Base, Steps};
 use second::calls::{self, Record, Refusal, State, Tally, RECORD_BYTES, SLOT};
 use second::random::Random;
 use second::rule::{Bucket, Kind};
@@ -25,9 +26,9 @@ pub struct Trace {
 }
 
 impl Trace {
-    pub fn open(kind: Kind, steps: u64, gaps: u64) -> Trace {
-        let mut room = marked_room(kind, steps, gaps);
-        let state = calls::open(kind, steps, gaps, &mut room).unwrap();
+    pub fn open(kind: Kind, size: Size, gaps: u64) -> Trace {
+        let mut room = marked_room(kind, size, gaps);
+        let state = calls::open(kind, size, gaps, &mut room).unwrap();
         Trace {
             state,
             room,
@@ -35,16 +36,16 @@ impl Trace {
         }
     }
 
-    pub fn in_order(steps: u64, values: &[i32]) -> Trace {
-        let mut trace = Trace::open(Kind::InOrder, steps, 0);
+    pub fn in_order(size: Size, values: &[i32]) -> Trace {
+        let mut trace = Trace::open(Kind::InOrder, size, 0);
         for &value in values {
             trace.next(value).unwrap();
         }
         trace
     }
 
-    pub fn late_of(steps: u64, gaps: u64, readings: &[(u32, i32)]) -> Trace {
-        let mut trace = Trace::open(Kind::Late, steps, gaps);
+    pub fn late_of(size: Size, gaps: u64, readings: &[(u32, i32)]) -> Trace {
+        let mut trace = Trace::open(Kind::Late, size, gaps);
         for &(tick, value) in readings {
             trace.late(tick, value).unwrap();
         }
@@ -62,7 +63,7 @@ impl Trace {
     }
 
     pub fn needed(&self) -> usize {
-        calls::needed_slots(self.state.kind, self.state.steps, self.state.gaps) * SLOT
+        calls::needed_slots(self.state.kind, self.state.base, self.state.gaps) * SLOT
     }
 
     /// The buckets by way of a chart row, with everything around them looked at too.
@@ -108,10 +109,11 @@ impl Trace {
     /// The same trace saved and loaded, with the tally carried over.
     pub fn reloaded(&self) -> Trace {
         let State {
-            kind, steps, gaps, ..
+            kind, base, gaps, ..
         } = self.state;
-        let mut room = marked_room(kind, steps, gaps);
-        let state = calls::load(kind, steps, gaps, &self.saved(), &mut room).unwrap();
+        let size = Base(base);
+        let mut room = marked_room(kind, size, gaps);
+        let state = calls::load(kind, size, gaps, &self.saved(), &mut room).unwrap();
         Trace {
             state,
             room,
@@ -121,8 +123,8 @@ impl Trace {
 }
 
 /// The needed slots and some spare ones, none of them written yet.
-pub fn marked_room(kind: Kind, steps: u64, gaps: u64) -> Vec<i64> {
-    vec![MARK; (calls::needed_slots(kind, steps, gaps) + SPARE) * SLOT]
+pub fn marked_room(kind: Kind, size: Size, gaps: u64) -> Vec<i64> {
+    vec![MARK; (calls::needed_slots(kind, size.base().unwrap(), gaps) + SPARE) * SLOT]
 }
 
 /// The saved form of start, count, least and largest.
@@ -137,9 +139,9 @@ pub fn bytes_of(records: &[(u32, u32, i32, i32)]) -> Vec<u8> {
     bytes
 }
 
-pub fn loaded(kind: Kind, steps: u64, gaps: u64, records: &[(u32, u32, i32, i32)]) -> Trace {
-    let mut room = marked_room(kind, steps, gaps);
-    let state = calls::load(kind, steps, gaps, &bytes_of(records), &mut room).unwrap();
+pub fn loaded(kind: Kind, size: Size, gaps: u64, records: &[(u32, u32, i32, i32)]) -> Trace {
+    let mut room = marked_room(kind, size, gaps);
+    let state = calls::load(kind, size, gaps, &bytes_of(records), &mut room).unwrap();
     Trace {
         state,
         room,
@@ -167,18 +169,26 @@ pub fn random_value(random: &mut Random) -> i32 {
     value as i32
 }
 
+/// By either name, up to a base limit of 8.
+pub fn random_size(random: &mut Random) -> Size {
+    match random.below(2) {
+        0 => Steps(random.between(1, 4) as u64),
+        _ => Base(random.between(1, 8) as u64),
+    }
+}
+
 /// A trace of some random readings, of either kind.
 pub fn random_trace(random: &mut Random) -> Trace {
-    let steps = random.between(1, 4) as u64;
+    let size = random_size(random);
     let readings = random.below(40);
     if random.below(2) == 0 {
-        let mut trace = Trace::open(Kind::InOrder, steps, 0);
+        let mut trace = Trace::open(Kind::InOrder, size, 0);
         for _ in 0..readings {
             trace.next(random_value(random)).unwrap();
         }
         return trace;
     }
-    let mut trace = Trace::open(Kind::Late, steps, random.between(1, 4) as u64);
+    let mut trace = Trace::open(Kind::Late, size, random.between(1, 4) as u64);
     for _ in 0..readings {
         let tick = random.below(40) as u32;
         // Those that are taken or would make a run too many are left out.

@@ -1,10 +1,13 @@
-//! The easy ways to get the rule wrong, each on an input where it shows; and those to get a search wrong, each on the script of searches.
+//! The easy ways to get the rule wrong, each on an input where it shows; those to get a search wrong, each on the script of searches; and those to
+//! get B and C wrong, each on the script of base limits.
 
 use crate::support::{bucket, Trace};
-use second::command::{Command, Name};
+use second::calls::{Size::Steps, GAPS, OVERFULL, RECORD_BYTES, ROOM, STEPS, UNSOUND};
+use second::clauses;
+use second::command::{Command, Name, Word};
 use second::rule::{insertion, limit, neighbours, runs, Bucket, Kind};
 use second::scripts;
-use second::session::{Answer, Session};
+use second::session::{kind_of, record_of_bytes, Answer, Session};
 
 /// A way to keep a table: what makes a pair cheap, what a merged bucket is, what may be merged.
 struct Way {
@@ -22,7 +25,7 @@ const RIGHT: Way = Way {
 };
 
 impl Way {
-    fn table(&self, kind: Kind, steps: u64, readings: &[(u32, i32)]) -> Vec<Bucket> {
+    fn table(&self, kind: Kind, base: u64, readings: &[(u32, i32)]) -> Vec<Bucket> {
         let mut table = Vec::new();
         for &(tick, value) in readings {
             let runs_before = runs(&table);
@@ -31,7 +34,7 @@ impl Way {
                 self.merge(&mut table);
                 self.merge(&mut table);
             }
-            while table.len() as u64 > limit(kind, steps, runs(&table)) {
+            while table.len() as u64 > limit(kind, base, runs(&table)) {
                 self.merge(&mut table);
             }
         }
@@ -48,7 +51,7 @@ impl Way {
     }
 
     fn in_order(&self, values: &[i32]) -> Vec<Bucket> {
-        self.table(Kind::InOrder, 1, &numbered(values))
+        self.table(Kind::InOrder, 2, &numbered(values))
     }
 }
 
@@ -58,15 +61,15 @@ fn numbered(values: &[i32]) -> Vec<(u32, i32)> {
 
 /// The wrong way's table differs; the calls and the right way agree on this one.
 fn differs_in_order(wrong: Way, values: &[i32], right: &[Bucket]) {
-    assert_eq!(Trace::in_order(1, values).buckets(), right);
+    assert_eq!(Trace::in_order(Steps(1), values).buckets(), right);
     assert_eq!(RIGHT.in_order(values), right);
     assert_ne!(wrong.in_order(values), right);
 }
 
 fn differs_late(wrong: Way, readings: &[(u32, i32)], right: &[Bucket]) {
-    assert_eq!(Trace::late_of(1, 2, readings).buckets(), right);
-    assert_eq!(RIGHT.table(Kind::Late, 1, readings), right);
-    assert_ne!(wrong.table(Kind::Late, 1, readings), right);
+    assert_eq!(Trace::late_of(Steps(1), 2, readings).buckets(), right);
+    assert_eq!(RIGHT.table(Kind::Late, 2, readings), right);
+    assert_ne!(wrong.table(Kind::Late, 2, readings), right);
 }
 
 #[test]
@@ -279,5 +282,215 @@ fn the_index_among_the_buckets_of_the_range() {
     differs_on_the_script(SearchWay {
         index_in_range: true,
         ..RIGHT_SEARCH
+    });
+}
+
+/// A way to take B and C: the base limit of what is named, where it is good, whether a state's is, the limit, and the slots needed.
+struct SizeWay {
+    base: fn(u64, u64) -> Option<u64>,
+    is_sound: fn(u64) -> bool,
+    limit: fn(Kind, u64, u64) -> u64,
+    needed: fn(Kind, u64, u64) -> u64,
+}
+
+const RIGHT_SIZE: SizeWay = SizeWay {
+    base: |size, by| match by {
+        0 => (1..=256).contains(&size).then_some(size.wrapping_mul(2)),
+        _ => (1..=512).contains(&size).then_some(size),
+    },
+    is_sound: |base| base != 0 && base <= 512,
+    limit: |kind, base, runs| base + if kind == Kind::Late { runs } else { 0 },
+    needed: |kind, base, gaps| base + 1 + if kind == Kind::Late { gaps } else { 0 },
+};
+
+/// What a call is refused by, or the base limit and the buckets of the state that it answers; zeros where it answers none.
+type Told = Result<(u64, u64), u32>;
+
+impl SizeWay {
+    /// The kind and the base limit.
+    fn opened(&self, session: &Session, command: &Command) -> Result<(Kind, u64), u32> {
+        let number = |name| session.setting(command, name);
+        let (kind, gaps) = (kind_of(number(Name::Kind)), number(Name::Gaps));
+        let base = (self.base)(number(Name::Size), number(Name::By)).ok_or(STEPS)?;
+        if kind == Kind::Late && !(1..=256).contains(&gaps) {
+            return Err(GAPS);
+        }
+        if (session.lent as u64) < 4 * (self.needed)(kind, base, gaps) {
+            return Err(ROOM);
+        }
+        Ok((kind, base))
+    }
+
+    fn loaded(&self, session: &Session, command: &Command) -> Told {
+        let (kind, base) = self.opened(session, command)?;
+        let bucket_of = |bytes| {
+            let record = record_of_bytes(bytes);
+            let [start, count] = [record.start, record.count].map(u64::from);
+            bucket(start, count, record.least.into(), record.largest.into())
+        };
+        let records = session.lent_file().chunks_exact(RECORD_BYTES);
+        let table: Vec<Bucket> = records.map(bucket_of).collect();
+        let used = table.len() as u64;
+        if used > (self.limit)(kind, base, runs(&table)) {
+            return Err(OVERFULL);
+        }
+        Ok((base, used))
+    }
+
+    fn is_unsound(&self, session: &Session) -> bool {
+        let state = session.state;
+        let mut broken = clauses::broken(state, session.lent_numbers());
+        broken[0] = !(self.is_sound)(state.base);
+        // What is too large for a sum is refused above.
+        if !broken[..3].contains(&true) {
+            let needed = (self.needed)(state.kind, state.base, state.gaps);
+            broken[3] = (session.lent as u64) < 4 * needed;
+            broken[4] = state.used > (self.limit)(state.kind, state.base, state.runs);
+        }
+        broken.contains(&true)
+    }
+
+    /// The calls of the script that are answered otherwise than they should be. Its files break no rule, and have no more runs than are allowed.
+    fn differences(&self) -> usize {
+        let script = scripts::of_name("base").unwrap();
+        let mut session = Session::new();
+        let mut differences = 0;
+        for line in script.text.lines() {
+            let Some(command) = Command::of_line(line).unwrap() else {
+                continue;
+            };
+            let told = match command.word {
+                Word::Open => Some(self.opened(&session, &command).map(|(_, base)| (base, 0))),
+                Word::Load => Some(self.loaded(&session, &command)),
+                word if word.is_call() => self.is_unsound(&session).then_some(Err(UNSOUND)),
+                _ => None,
+            };
+            let before = session.state;
+            let answer = session.obey(&command);
+            let right = match &answer {
+                Answer::State(Ok(after)) => Ok((after.base, after.used)),
+                answer => answer
+                    .refusal()
+                    .map_or(Ok((0, 0)), |given| Err(given.number)),
+            };
+            let told = told.unwrap_or_else(|| match &answer {
+                Answer::State(Ok(after)) => {
+                    let limit = (self.limit)(after.kind, after.base, after.runs);
+                    Ok((after.base, limit.min(before.used + 1)))
+                }
+                // Not refused as it should be, so that it goes on.
+                _ if right == Err(UNSOUND) => Ok((before.base, before.used)),
+                _ => right,
+            });
+            differences += usize::from(told != right);
+        }
+        differences
+    }
+}
+
+#[test]
+fn the_right_way_to_take_b_and_c() {
+    assert_eq!(RIGHT_SIZE.differences(), 0);
+}
+
+fn differs_on_the_script_of_bases(wrong: SizeWay) {
+    let differences = wrong.differences();
+    assert!(differences >= 100, "{differences}");
+}
+
+#[test]
+fn an_odd_base_halved_and_doubled() {
+    differs_on_the_script_of_bases(SizeWay {
+        base: |size, by| (RIGHT_SIZE.base)(size, by).map(|base| base / 2 * 2),
+        ..RIGHT_SIZE
+    });
+}
+
+#[test]
+fn a_base_of_513_opened() {
+    differs_on_the_script_of_bases(SizeWay {
+        base: |size, by| match (size, by) {
+            (513, 1..) => Some(513),
+            _ => (RIGHT_SIZE.base)(size, by),
+        },
+        ..RIGHT_SIZE
+    });
+}
+
+#[test]
+fn a_base_of_513_that_is_sound() {
+    differs_on_the_script_of_bases(SizeWay {
+        is_sound: |base| base != 0 && base <= 513,
+        ..RIGHT_SIZE
+    });
+}
+
+#[test]
+fn a_base_of_0_that_is_sound() {
+    differs_on_the_script_of_bases(SizeWay {
+        is_sound: |base| base <= 512,
+        ..RIGHT_SIZE
+    });
+}
+
+#[test]
+fn a_b_of_257_opened() {
+    differs_on_the_script_of_bases(SizeWay {
+        base: |size, by| match (size, by) {
+            (257, 0) => Some(514),
+            _ => (RIGHT_SIZE.base)(size, by),
+        },
+        ..RIGHT_SIZE
+    });
+}
+
+#[test]
+fn b_doubled_in_64_bits_before_it_is_checked() {
+    differs_on_the_script_of_bases(SizeWay {
+        base: |size, by| match by {
+            0 => (RIGHT_SIZE.base)(size.wrapping_mul(2), 1),
+            _ => (RIGHT_SIZE.base)(size, by),
+        },
+        ..RIGHT_SIZE
+    });
+}
+
+#[test]
+fn a_size_cut_to_32_bits() {
+    differs_on_the_script_of_bases(SizeWay {
+        base: |size, by| (RIGHT_SIZE.base)(u64::from(size as u32), by),
+        ..RIGHT_SIZE
+    });
+}
+
+#[test]
+fn a_by_of_2_taken_as_by_steps() {
+    differs_on_the_script_of_bases(SizeWay {
+        base: |size, by| (RIGHT_SIZE.base)(size, u64::from(by != 0 && by != 2)),
+        ..RIGHT_SIZE
+    });
+}
+
+#[test]
+fn a_by_cut_to_32_bits() {
+    differs_on_the_script_of_bases(SizeWay {
+        base: |size, by| (RIGHT_SIZE.base)(size, u64::from(by as u32)),
+        ..RIGHT_SIZE
+    });
+}
+
+#[test]
+fn a_late_limit_without_its_runs() {
+    differs_on_the_script_of_bases(SizeWay {
+        limit: |_, base, _| base,
+        ..RIGHT_SIZE
+    });
+}
+
+#[test]
+fn a_late_room_without_k() {
+    differs_on_the_script_of_bases(SizeWay {
+        needed: |_, base, _| base + 1,
+        ..RIGHT_SIZE
     });
 }

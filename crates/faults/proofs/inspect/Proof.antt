@@ -59,7 +59,7 @@ limit-requires : tie.Need-limit-requires
 limit-requires c κs =
     let start = c .before .before .before .before .before .before .before in
     let s = start .args .s in
-    let grows = limit-gaps (s .kind) (2 * s .steps) (s .gaps) (c .before .before .counts .result .runs) (flipped (c .before .runs-allowed .ensures) (c .if3 .left)) in
+    let grows = limit-gaps (s .kind) (s .base) (s .gaps) (c .before .before .counts .result .runs) (flipped (c .before .runs-allowed .ensures) (c .if3 .left)) in
     omega (arith, grows, needed-small s (start .pre .0) (start .pre .1))
 
 returns-4 : tie.Need-returns-4

@@ -7,5 +7,5 @@ pub trace-of-spec : {M : Type 1} → statement M
 trace-of-spec =
     tie.close
     (tie.spec
-    (λ c κs. search needs)  -- settings-of-requires
-    (λ c. rw (c .settings-of .ensures)))  -- returns
+    (λ c κs. search needs)  -- kind-of-requires
+    (λ c. rw (c .kind-of .ensures)))  -- returns

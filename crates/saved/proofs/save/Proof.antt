@@ -30,7 +30,7 @@ mul-if2 : tie.Need-mul-if2
 mul-if2 c =
     let a = c .before .before .before .before .before .args in
     let f = sound-facts (a .trace .state) (a .room .now) (whole (c .before)) in
-    omega (arith, used-needed (a .trace .state) (a .room .now) f, needed-small (a .trace .state .settings) (f .steps-good) (f .gaps-good))
+    omega (arith, used-needed (a .trace .state) (a .room .now) f, needed-small (a .trace .state .settings) (f .base-good) (f .gaps-good))
 
 returns-2 : tie.Need-returns-2
 unfolding writeVerdict checked wrote

@@ -8,16 +8,8 @@ use Rattle.settings.proofs.limit.Tie as tie
 enum-told : tie.Need-enum-told
 enum-told c = search needs
 
-mul-result : tie.Need-mul-result
-unfolding limitOver
-mul-result c = omega (arith, rw (c .before .enum-told .given .1) at (c .before .before .before .pre))
-
 enum-told-2 : tie.Need-enum-told-2
 enum-told-2 c = search needs
-
-mul-result-2 : tie.Need-mul-result-2
-unfolding limitOver
-mul-result-2 c = omega (arith, rw (c .before .enum-told2 .given .1) at (c .before .before .before .pre))
 
 add-result : tie.Need-add-result
 unfolding limitOver
@@ -25,7 +17,7 @@ add-result c = omega (arith, rw (c .before .enum-told2 .given .1) at (c .before 
 
 returns : tie.Need-returns
 unfolding limitOver
-returns c = rw (c .before .enum-told .given .1)
+returns c = rw (c .enum-told .given .1)
 
 returns-2 : tie.Need-returns-2
 unfolding limitOver
@@ -33,4 +25,4 @@ returns-2 c = rw (c .before .enum-told2 .given .1)
 
 pub limit-spec : {M : Type 1} → statement M
 limit-spec =
-    tie.close (tie.spec enum-told mul-result enum-told-2 mul-result-2 add-result returns returns-2)
+    tie.close (tie.spec enum-told enum-told-2 add-result returns returns-2)

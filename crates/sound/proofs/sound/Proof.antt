@@ -19,7 +19,7 @@ use Rattle.sound.proofs.sound.Tie as tie
 returns : tie.Need-returns
 returns c =
     let a = c .before .before .before .args in
-    unsound (a .s) (a .room .now) 0 (flipped (c .before .steps-good .ensures) (c .if1 .taken))
+    unsound (a .s) (a .room .now) 0 (flipped (c .before .bounded .ensures) (c .if1 .taken))
 
 returns-2 : tie.Need-returns-2
 returns-2 c =
@@ -35,7 +35,7 @@ bounded : (c : tie.Else3) → Limits (c .before .before .before .before .before 
 bounded c =
     let two = c .before .before in
     let one = two .before .before in
-    limits _ (flipped (one .before .steps-good .ensures) (one .if1 .left)) (flipped (two .before .gaps-good .ensures) (two .if2 .left)) (flipped (c .before .runs-allowed .ensures) (c .if3 .left))
+    limits _ (flipped (one .before .bounded .ensures) (one .if1 .left)) (flipped (two .before .gaps-good .ensures) (two .if2 .left)) (flipped (c .before .runs-allowed .ensures) (c .if3 .left))
 
 returns-4 : tie.Need-returns-4
 unfolding roomy
@@ -86,7 +86,7 @@ returns-7 c =
       four .before .needed .ensures,
       some,
       sound-tests (a .s) (a .room .now),
-      flipped (one .before .steps-good .ensures) (one .if1 .left),
+      flipped (one .before .bounded .ensures) (one .if1 .left),
       flipped (two .before .gaps-good .ensures) (two .if2 .left),
       flipped (three .before .runs-allowed .ensures) (three .if3 .left),
       le-leb (slotWidth * needed t) (length (a .room .now)) (omega (arith, four .before .needed .ensures, four .if4 .left)),

@@ -16,9 +16,10 @@
  *
  * The room
  *   Signed 64-bit numbers, four to a slot: start, count, least, largest. NDZ_NUMBERS(kind, B, K) numbers are enough for a
- *   trace of B, NDZ_NUMBERS_BASE(kind, C, K) for one of C, and a room may have more. The slots in use come first, in tick order, the others up to the needed number are
- *   zeros, and what lies behind the needed slots is never written. Hand each call the state that the last one left and the
- *   same room; state and room that do not belong together are refused by NDZ_UNSOUND, whatever they hold.
+ *   trace opened by B, NDZ_NUMBERS_BASE(kind, C, K) for one opened by C, and a room may have more. The slots in use come
+ *   first, in tick order, the others up to the needed number are zeros, and what lies behind the needed slots is never
+ *   written. Hand each call the state that the last one left and the same room; state and room that do not belong together
+ *   are refused by NDZ_UNSOUND, whatever they hold.
  *
  * Going on after an answer
  *   ndz_take(&state, ndz_next(state, ..)) goes on with an accepted answer's state and leaves the state where the call was
@@ -42,11 +43,12 @@ extern "C" {
 #define NDZ_IN_ORDER 0 /* the next reading takes the next tick, from 0 */
 #define NDZ_LATE 1     /* each reading names its tick, in any order */
 
-/* What `size` names. Any other number than 0 is taken as by base. In a trace that was opened empty, also where it was saved and
- * loaded again with its settings: if every reading is within E of some curve of at most (C + 1) / 2 flat steps, rounded down,
- * every reading is within E of the steps kept. Where C is 2B, these are curves of at most B flat steps. */
-#define NDZ_BY_STEPS 0 /* B: at most 2B steps in order */
-#define NDZ_BY_BASE 1  /* C, the base limit itself: at most C steps in order */
+/* What `size` names: B, which stands for C = 2B, or C, the base limit, itself. Any other number than 0 is taken as by base,
+ * and the state that is handed back has C alone. In a trace that was opened empty, also where it was saved and loaded again
+ * with its settings: if every reading is within E of some curve of at most (C + 1) / 2 flat steps, rounded down, every
+ * reading is within E of the steps kept. By B these are curves of at most B flat steps. */
+#define NDZ_BY_STEPS 0 /* B, 1 to 256: at most 2B steps in order */
+#define NDZ_BY_BASE 1  /* C, 1 to 512: at most C steps in order */
 
 /* Limits. A late trace has at most C steps and one for each of its runs. */
 #define NDZ_DEFAULT_STEPS 32
@@ -58,8 +60,8 @@ extern "C" {
 #define NDZ_SLOT 4           /* numbers of a slot */
 #define NDZ_RECORD_BYTES 16  /* bytes of a saved bucket */
 
-/* How many numbers a trace needs: four for each of C + 1 slots in order, of C + K + 1 late; by steps C is 2B. For B, C and K in
- * their bounds a constant where they are: int64_t room[NDZ_NUMBERS_BASE(NDZ_IN_ORDER, 63, 0)]. */
+/* How many numbers a trace needs: four for each of C + 1 slots in order, of C + K + 1 late; by steps C is 2B. For B, C and K
+ * in their bounds a constant where they are: int64_t room[NDZ_NUMBERS_BASE(NDZ_IN_ORDER, 63, 0)]. */
 #define NDZ_NUMBERS_BASE(kind, base, gaps) (NDZ_SLOT * ((base) + ((kind) == NDZ_IN_ORDER ? 0 : (gaps)) + 1))
 #define NDZ_NUMBERS(kind, steps, gaps) NDZ_NUMBERS_BASE(kind, 2 * (steps), gaps)
 
@@ -78,16 +80,17 @@ extern "C" {
 #define NDZ_ABSENT 12
 #define NDZ_SHORT 13
 
-/* What a trace is opened or loaded with. `size` is B or C, as `by` says; K, the most unbroken runs of a late trace, is `gaps`,
- * which is ignored in order. */
+/* What a trace is opened or loaded with. `size` is B or C, as `by` says; K, the most unbroken runs of a late trace, is
+ * `gaps`, which is ignored in order. */
 typedef struct {
     uint64_t kind;
     uint64_t size;
     uint64_t gaps;
-    uint64_t by; /* NDZ_BY_STEPS or NDZ_BY_BASE */
+    uint64_t by; /* NDZ_BY_STEPS or NDZ_BY_BASE; set it, or begin with = {0} */
 } ndz_settings;
 
-/* A trace but for its room. */
+/* A trace but for its room. Where a state of version 0.3 was kept or filled by position, B stands in the place of `base`:
+ * it must be doubled. */
 typedef struct {
     uint64_t kind;
     uint64_t base;     /* C, which is 2B where B was named */

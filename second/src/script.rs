@@ -1,6 +1,6 @@
 //! A script that is being written: its text, and the session that it makes, by which the next commands are chosen.
 
-use crate::calls::{self, Size, RECORD_BYTES, SLOT};
+use crate::calls::{self, Size, MOST_BASE, MOST_STEPS, RECORD_BYTES, SLOT};
 use crate::command::{Command, Name, Word};
 use crate::made;
 use crate::random::Random;
@@ -261,4 +261,12 @@ fn fields(bytes: &[u8]) -> [i64; SLOT] {
 /// The bits of a signed number.
 pub fn wide(number: i32) -> u64 {
     i64::from(number) as u64
+}
+
+/// The base limit in bounds that is next to the one named.
+pub fn nearest_base(size: u64, by: u64) -> u64 {
+    match by {
+        0 => 2 * size.clamp(1, MOST_STEPS),
+        _ => size.clamp(1, MOST_BASE),
+    }
 }

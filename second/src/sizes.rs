@@ -1,7 +1,8 @@
 //! The sorts of calls that B and C are told apart by, told from the answer and from the states before and after it.
 
 use crate::calls::{
-    needed_numbers, Size, State, MOST_BASE, MOST_STEPS, OVERFULL, ROOM, SLOT, STEPS, UNSOUND,
+    needed_numbers, Size, State, MOST_BASE, MOST_GAPS, MOST_STEPS, OVERFULL, ROOM, SLOT, STEPS,
+    UNSOUND,
 };
 use crate::command::{Command, Name, Word};
 use crate::counts::Met;
@@ -95,7 +96,7 @@ fn good(base: u64) -> bool {
 }
 
 fn limit(state: &State) -> u64 {
-    rule::limit(state.kind, state.base, state.runs.min(MOST_BASE))
+    rule::limit(state.kind, state.base, state.runs.min(MOST_GAPS))
 }
 
 fn parity(base: u64) -> &'static str {
@@ -185,12 +186,13 @@ impl Call<'_> {
             ..self.before
         };
         let same = self.refusal == 0 && self.after == moved;
+        let full = self.before.used == limit(&self.before);
         match (self.opened?, size) {
             (Size::Steps(_), Size::Base(_)) if same && base == there => Some(BY_C),
             (Size::Base(_), Size::Steps(_)) if same && base == there => Some(BY_B),
             _ if same && base == there + 1 => Some(ONE_MORE),
             _ if same && base + 1 == there => Some(ONE_LESS),
-            _ if self.refusal == OVERFULL && base + 1 == there => Some(ONE_LESS_REFUSED),
+            _ if self.refusal == OVERFULL && base + 1 == there && full => Some(ONE_LESS_REFUSED),
             _ => None,
         }
     }

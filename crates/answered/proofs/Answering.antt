@@ -76,8 +76,8 @@ size-due (Base c) = bounds mostBase c
 -- the base limit kept is the one that is named
 pub base-is : (z : Size) → baseOf z ≡ baseNamed z
 unfolding baseOf baseNamed
-base-is (Steps b) = refl
-base-is (Base c) = refl
+base-is (Steps b) = omega arith
+base-is (Base c) = omega arith
 
 gaps-due : (k : Kind) (gaps : ℕ) → not (gapsGood k (gapsKept k gaps)) ≡ late k && outside 256 gaps
 unfolding gapsGood gapsKept late
@@ -277,7 +277,7 @@ load-past g file l (accepted t, m) e =
     ap (drop (slotWidth * needed (kept g))) left ∙ drop-laid (needed (kept g)) (recordsOf file) l (omega (arith, loads-needed (kept g) file (a .1))) (needed (kept g)) (omega arith)
 
 pub demand1 : Demand1
-unfolding nextVerdict lateVerdict lookupOutcome writeVerdict ruled said firstOf
+unfolding nextVerdict lateVerdict lookupOutcome writeVerdict ruled said firstOf late
 demand1 = record {
   opens = λ g l. answered (kept g) l (admitted g l (accepted [])) (openRows g l) (admits g l (accepted []) [] refl);
   nexts = λ s l v. answered (s .settings) l (nextVerdict s l v) (nextRows s l) (said-all _ _);
@@ -300,5 +300,7 @@ demand1 = record {
   past-next = λ s l v range. read-past s l _ (next-either s l v (Past (s .settings) l) (refused-past (s .settings) l) (λ _ r small. taken-past s l _ _ _ v r range small));
   past-late = λ s l tick v range. read-past s l _ (late-either s l v (Past (s .settings) l) (refused-past (s .settings) l) tick (λ _ _ r small. taken-past s l _ _ tick v r range small));
   past-load = λ g file l. named-past g l _ (load-past g file l (loaded g file l) refl);
+  sizes-in-order = λ c gaps k. (omega arith, omega arith);
+  sizes-late = λ c gaps k. (refl, refl);
   tally = told;
 }

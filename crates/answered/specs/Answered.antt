@@ -11,6 +11,7 @@ use lib.Signed.{leZ}
 use Rattle.rule.specs.declared.Bucket.{Bucket}
 use Rattle.rule.specs.declared.Found.{Found}
 use Rattle.rule.specs.declared.Kind.{Kind}
+use Rattle.rule.specs.declared.Kind.the-variants.{InOrder, Late}
 use Rattle.rule.specs.declared.Opening.{Opening}
 use Rattle.rule.specs.declared.Settings.{Settings}
 use Rattle.rule.specs.declared.Size.{Size}
@@ -195,6 +196,9 @@ pub record Demand1 : Type 0 where
   pub past-next : (s : State) (l : List ℤ) (v : ℤ) → signed v ≡ true → drop (4 * slotsNeeded (s .settings)) (nextOutcome s l v .1) ≡ drop (4 * slotsNeeded (s .settings)) l
   pub past-late : (s : State) (l : List ℤ) (tick : ℕ) (v : ℤ) → signed v ≡ true → drop (4 * slotsNeeded (s .settings)) (lateOutcome s l tick v .1) ≡ drop (4 * slotsNeeded (s .settings)) l
   pub past-load : (g : Opening) (file : List ℕ) (l : List ℤ) → drop (4 * slotsNeeded (namedBy g)) (loaded g file l .1) ≡ drop (4 * slotsNeeded (namedBy g)) l
+  -- so many slots are needed, and so many steps kept at most, for a base limit C: in order C + 1 and C, whatever K is named, and late C + K + 1 and C + k
+  pub sizes-in-order : (c gaps k : ℕ) → let s : Settings = record { kind = InOrder; base = c; gaps = gaps } in (slotsNeeded s ≡ c + 1) × (mostSteps s k ≡ c)
+  pub sizes-late : (c gaps k : ℕ) → let s : Settings = record { kind = Late; base = c; gaps = gaps } in (slotsNeeded s ≡ c + gaps + 1) × (mostSteps s k ≡ c + k)
   -- the one thing that a refused reading changes
   pub tally : (t : Tally) (used : ℕ) (o : Verdict State) (r : ℕ × ℕ) → said o ≡ some r
       → counted t used o ≡ record { accepted = t .accepted; refused = min (t .refused + 1) 4294967295; merges = t .merges }

@@ -1,5 +1,4 @@
 // The lines that are written: what a call answers, and the checksum of what it was lent.
-ghost use Prim.Native.Nat.{_≤_};
 use crate::line;
 use rule::Found;
 use rule::Kind;

@@ -1,6 +1,6 @@
 -- Document 01's own rule, with its lowest start and any base limit, is one of the rules of which demand 3 is proved.
-use Prim.Native.Nat.{ℕ, zero, suc, _+_, _*_, _≤_, _<_}
-use mathlib.Core.Path.{_≡_, sym, subst}
+use Prim.Native.Nat.{ℕ, zero, suc, _+_, _≤_, _<_}
+use mathlib.Core.Path.{sym, subst}
 use mathlib.Core.List.{List, [], _∷_}
 use native.Mathlib.Omega.{arith}
 use borrow.Author.Tests.{leb-true, leb-false}
@@ -9,13 +9,12 @@ use lib.ListN.{length}
 use Rattle.rule.specs.declared.Kind.{Kind}
 use Rattle.rule.specs.declared.Kind.the-variants.{InOrder, Late}
 use Rattle.rule.specs.declared.Settings.{Settings}
-use Rattle.rule.specs.Table.{Table, accept, insert, limit, limitOver, merge, runs, settle, single, worst}
+use Rattle.rule.specs.Table.{Table, accept, insert, limit, limitOver, merge, runs, settle, single}
 use Rattle.rule.proofs.Whole.{by-test}
 use Rattle.rule.proofs.Merging as merging
 use Rattle.rule.proofs.Merging.{Enough, merge-length, merge-runs, settle-merges, settle-rests}
-use Rattle.demands.specs.Curve.{Curve, steps}
 use Rattle.demands.specs.History.{Accepted, Held, Merge, Reading, Settles, accepted, merges, opened, rests, tableAfter}
-use Rattle.demands.specs.Served.{Near, Served, Shown}
+use Rattle.demands.specs.Served.{Served}
 use Rattle.demands.proofs.Demand3.{held-invariant, served}
 use Rattle.demands.proofs.Invariant.{Joined, reading-invariant}
 
@@ -73,8 +72,3 @@ pub demand3 : (s : Settings) (rs : List Reading) → 1 ≤ s .base → Accepted 
 demand3 s rs few a =
     let held = instance-held s rs few a in
     (held .0, served (s .kind) (s .base) rs (tableAfter s rs) (held .0) (omega arith) (held .1))
-
--- of a table of 2B: the picture is as near to the readings as any curve of at most B steps
-pub every-curve : (s : Settings) (rs : List Reading) (b : ℕ) → 1 ≤ b → s .base ≡ 2 * b → Accepted s rs
-    → (c : Curve) (E : ℕ) → steps c ≤ b → Near E c rs → Shown E (tableAfter s rs) rs × (worst (tableAfter s rs) ≤ E)
-every-curve s rs b few doubled a c E h near = demand3 s rs (omega arith) a .1 .picture c E (omega arith) near

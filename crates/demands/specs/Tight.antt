@@ -1,11 +1,10 @@
 -- Against curves of one step more nothing is promised, for odd tables and even ones: in order, after these readings, some such curve is nearer than the picture.
-use Prim.Native.Nat.{ℕ, suc, _+_, _/_, _<_, max}
+use Prim.Native.Nat.{ℕ, _+_, _/_, _<_, max}
 use mathlib.Core.Path.{_≡_}
 use mathlib.Core.List.{List, [], _∷_}
 use lib.IntN.{ℤ, pos, negsuc}
 use lib.ListN.{length}
 use Rattle.rule.specs.declared.Kind.the-variants.{InOrder}
-use Rattle.rule.specs.declared.Settings.{Settings}
 use Rattle.rule.specs.Bucket.{distance}
 use Rattle.rule.specs.Table.{worst}
 use Rattle.demands.specs.Curve.{Border, Curve, steps, value}

@@ -56,7 +56,7 @@ use Rattle.promises.specs.Demands.{Upheld}
 use Rattle.promises.specs.Reached.{Reached}
 use Rattle.exported.specs.Exported.{Called, Counts, Errs, ExportedDemand1, ExportedDemand2, ExportedSearch, Points, Promised, Replies, Shows, Tallies, Within, firstDue, wroteAll}
 use Rattle.answered.proofs.Answering.{demand1, needed-is}
-use Rattle.promises.proofs.Keeping.{held-small, keeps, kept-same}
+use Rattle.promises.proofs.Keeping.{demand2, held-small, keeps, kept-same}
 use Rattle.answered.proofs.Outcomes.{next-in-order}
 
 -- ---- demand 1
@@ -139,7 +139,7 @@ exported-demand1 = record {
   loads = λ named file l. let g = openingOf named in replies none (loaded g file l .0) (openRows g l ++ fileRows g file) l (loaded g file l .1) (demand1 .loads g file l);
   places = λ named file l e. let g = openingOf named in demand1 .places g file l (replying none (answer (loaded g file l .0)) .place) (eight none (loaded g file l .0) e);
   kinds = (refl, λ n. refl);
-  sizes = (λ size. refl, λ n size. refl);
+  openings = λ kind size gaps n. (refl, refl);
   same-open = λ kind b gaps n l. ap (λ (o : Verdict State × List ℤ). replied none (answered o)) (demand1 .same-open (kindOf kind) b gaps l);
   same-load = λ kind b gaps n file l. ap (λ (o : Verdict State × List ℤ). replied none (answered o)) (demand1 .same-load (kindOf kind) b gaps file l);
   unsound = λ l. refl;
@@ -364,7 +364,7 @@ promises {named} {rs} {f} {l} c =
       kind-named = sym (ap (λ (x : Fields). x .kind) plain) ∙ ap (λ (x : Settings). numberOf (x .kind)) (k .named);
       base-named = k .base-named ∙ base-words (named .by) (named .size);
       gaps-named = k .gaps-named;
-      size = k .size;
+      size = omega (arith, k .size, k .base-named);
       size-of-steps = λ by. omega (arith, k .size, named-steps by);
       runs = k .runs;
       readings = k .readings;
@@ -393,6 +393,15 @@ promises {named} {rs} {f} {l} c =
 pub exported-demand2 : ExportedDemand2
 unfolding telling
 exported-demand2 = record {
+  load-named = λ named file l z.
+      let h : Opening = openingOf named in
+      let r : Reply = replying none (answer (loaded h file l .0)) in
+      let a = accepts none (loaded h file l) {r = r} {m = loaded h file l .1} refl z in
+      let n = demand2 .loaded-named h file l (stateFrom (r .state)) (ap (λ (x : Verdict State × List ℤ). x .0) (a .outcome)) in (
+        sym (ap (λ (x : Fields). x .kind) (a .plain)) ∙ ap numberOf (n .0),
+        n .1 ∙ base-words (named .by) (named .size),
+        n .2,
+      );
   same-bytes = λ named file out l known long z.
       let h : Opening = openingOf named in
       let a = accepts none (loaded h file l) {r = replying none (answer (loaded h file l .0))} {m = loaded h file l .1} refl z in

@@ -31,9 +31,9 @@ use Rattle.plain.specs.declared.Hit.{Hit}
 use Rattle.plain.specs.declared.Reply.{Reply}
 use Rattle.plain.specs.declared.Shown.{Shown}
 use Rattle.plain.specs.declared.WorstError.{WorstError}
-use Rattle.fields.specs.States.{fieldsOf, kindOf, none, numberOf, openingOf, sizeOf, stateFrom}
+use Rattle.fields.specs.States.{fieldsOf, kindOf, none, numberOf, openingOf, stateFrom}
 use Rattle.plain.specs.Plain.{lateReply, lateTally, loadReply, lookupReply, nextReply, nextTally, openReply, pointing, rowReply, saveReply, searchReply, worstReply}
-use Rattle.answered.specs.Answered.{Row, fileRows, lateRows, lookupRows, mostSteps, namedBy, nextRows, openRows, searchRows, slotsNeeded, worstRows, writeRows}
+use Rattle.answered.specs.Answered.{Row, fileRows, lateRows, lookupRows, namedBy, nextRows, openRows, searchRows, slotsNeeded, worstRows, writeRows}
 use Rattle.promises.specs.Demands.{Upheld}
 use Rattle.promises.specs.Reached.{SameSettings}
 
@@ -93,9 +93,11 @@ pub record ExportedDemand1 : Type 0 where
       Replies (openRows (openingOf named) l ++ fileRows (openingOf named) file) none l (o .1) (o .0)
   -- 8: the record at its place is the file's, it breaks a rule, and all before it meet them
   pub places : (named : Named) (file : List ℕ) (l : List ℤ) → let r = loadReply named file l .0 in r .refusal ≡ 8 → FirstBroken (kindOf (named .kind)) file (r .place)
-  -- kind 0 is in order, any other late; by 0 the size is B, by any other number C
+  -- kind 0 is in order, any other late
   pub kinds : (kindOf 0 ≡ InOrder) × ((n : ℕ) → kindOf (suc n) ≡ Late)
-  pub sizes : ((size : ℕ) → sizeOf 0 size ≡ Steps size) × ((n size : ℕ) → sizeOf (suc n) size ≡ Base size)
+  -- by 0 the size is B, by any other number C: that is the opening that the rows above speak of
+  pub openings : (kind size gaps n : ℕ) → (openingOf (record { kind = kind; size = size; gaps = gaps; by = 0 }) ≡ record { kind = kindOf kind; size = Steps size; gaps = gaps })
+      × (openingOf (record { kind = kind; size = size; gaps = gaps; by = suc n }) ≡ record { kind = kindOf kind; size = Base size; gaps = gaps })
   -- B is C = 2B: whoever names either gets the same answer, and the same is left, refused or not
   pub same-open : (kind b gaps n : ℕ) (l : List ℤ) → openReply (record { kind = kind; size = b; gaps = gaps; by = 0 }) l ≡ openReply (record { kind = kind; size = 2 * b; gaps = gaps; by = suc n }) l
   pub same-load : (kind b gaps n : ℕ) (file : List ℕ) (l : List ℤ)
@@ -167,7 +169,7 @@ pub record Promised (named : Named) (rs : List Reading) (f : Fields) (l : List �
   pub base-named : f .base ≡ cond (eqb (named .by) 0) (2 * named .size) (named .size)
   pub gaps-named : f .gaps ≡ cond (late (kindOf (named .kind))) (named .gaps) 0
   -- at most C steps, late one more for each unbroken run; 2B where B was named
-  pub size : f .used ≤ mostSteps (namedBy (openingOf named)) (runsOf rs)
+  pub size : f .used ≤ f .base + cond (late (kindOf (named .kind))) (runsOf rs) 0
   pub size-of-steps : named .by ≡ 0 → f .used ≤ 2 * named .size + cond (late (kindOf (named .kind))) (runsOf rs) 0
   pub runs : f .runs ≡ runsOf rs
   pub readings : f .readings ≡ length rs
@@ -197,5 +199,8 @@ pub record Promised (named : Named) (rs : List Reading) (f : Fields) (l : List �
 
 -- demand 2 of bytes from anywhere: what ndz_load accepts, ndz_save writes, and nothing behind it
 pub record ExportedDemand2 : Type 0 where
+  -- and ndz_load keeps what was named: a late kind is 1, B is kept as 2B, and in order K as 0
+  pub load-named : (named : Named) (file : List ℕ) (l : List ℤ) → let r = loadReply named file l .0 in r .refusal ≡ 0
+      → (r .state .kind ≡ numberOf (kindOf (named .kind))) × (r .state .base ≡ cond (eqb (named .by) 0) (2 * named .size) (named .size)) × (r .state .gaps ≡ cond (late (kindOf (named .kind))) (named .gaps) 0)
   pub same-bytes : (named : Named) (file out : List ℕ) (l : List ℤ) → AllBytes file → length file ≤ length out → let o = loadReply named file l in o .0 .refusal ≡ 0
       → saveReply (o .0 .state) (o .1) out ≡ (wroteAll (length file / 16), file ++ drop (length file) out)

@@ -1,5 +1,5 @@
 -- Read byte by byte or in pieces, what is shown is the listing of the whole input.
-use Prim.Native.Nat.{ℕ, suc, _+_, _%_, _^_, _≤_, _<_}
+use Prim.Native.Nat.{ℕ, suc, _+_, _*_, _%_, _^_, _≤_, _<_}
 use mathlib.Core.Path.{_≡_, refl, sym, ap, _∙_, subst}
 use mathlib.Core.Bool.{true, false}
 use mathlib.Core.List.{List, [], _∷_, _++_, append-assoc}
@@ -12,11 +12,17 @@ use lib.ListN.{length, replicate, set, take, length-append, length-replicate, le
 use lib.Seq.{length-take-le, take-suc-set}
 use Rattle.rule.specs.declared.Refusal.{Refusal}
 use Rattle.rule.specs.declared.State.{State}
+use Rattle.rule.specs.declared.Kind.the-variants.{Late}
+use Rattle.rule.specs.declared.Size.the-variants.{Steps}
+use Rattle.rule.specs.Calls.{Verdict, accepted, baseOf, kept, opened, refused, stateOf, traced}
 use Rattle.rule.specs.Numbers.{ticks}
 use Rattle.rule.specs.Room.{zeros}
-use Rattle.rule.specs.Table.{limitOver}
+use Rattle.rule.specs.Table.{Table, limitOver}
 use Rattle.rule.proofs.Whole.{by-test}
 use Rattle.rooms.proofs.Bounds.{needed-small}
+use Rattle.rooms.proofs.Granting.{opened-kept}
+use Rattle.rooms.proofs.Leaving.{open-either}
+use Rattle.trace.specs.Answers.{answered}
 use Rattle.rooms.proofs.Sounding.{sound-facts, used-needed}
 use Rattle.trace.specs.declared.Answer.{Answer}
 use Rattle.trace.specs.declared.Answer.the-variants.{Accepted, Refused}
@@ -27,7 +33,7 @@ use Rattle.notation.specs.Reading.{lineMost, lineOf}
 use Rattle.notation.proofs.Ranges.{line-ranged, too-long-line}
 use Rattle.listing.specs.declared.Feeding.{Feeding}
 use Rattle.listing.specs.declared.Stage.{Stage}
-use Rattle.listing.specs.Listing.{Standing, begun, defaultSteps, inOrder, lines, obeyed, output, read, readAll, roomSize, shown, stageAfter}
+use Rattle.listing.specs.Listing.{Standing, begun, defaultSteps, inOrder, lateWith, lines, obeyed, output, read, readAll, roomSize, shown, stageAfter}
 use Rattle.listing.specs.Feeding.{Reader, Showable, byteFed, fed, fresh, lengthened, lineEnded, lineFed, outputRoom, restFed, tooLong}
 use Rattle.listing.specs.Lists.{Lists, atEnd, fedAll, joined, start, written}
 use Rattle.listing.proofs.Pieces.{fed-append}
@@ -231,10 +237,27 @@ whole-showable input out e =
     let up : Upright (y .last) (y .room) (y .stage) (y .count) = read-upright x (lines input) (opened-upright (inOrder defaultSteps) (zeros roomSize) Stage.Nothing 0 (omega arith)) in
     subst (λ (q : Seen). Showable (q .0) (q .1 .1) out) (sym (listed-whole input)) (upright-showable (y .last) (y .room) (y .stage) (y .count) out up e)
 
+-- the base limit of a trace opened with B is 2B
+base-opened : (b : ℕ) (l m : List ℤ) (s : State) → opened (inOrder b) l ≡ (accepted s, m) → s .settings .base ≡ 2 * b
+unfolding traced baseOf
+base-opened b l m s =
+    open-either (inOrder b) l (λ (v : Verdict Table). traced (kept (inOrder b)) l v ≡ (accepted s, m) → s .settings .base ≡ 2 * b)
+    (λ r e. absurd (let f : _≡_ {A = Verdict State} (refused r) (accepted s) = ap (λ (o : Verdict State × List ℤ). o .0) e in let z : _≡_ {A = ℕ} 0 1 = cc in omega arith))
+    (λ _ e.
+    let f : _≡_ {A = Verdict State} (accepted (stateOf (kept (inOrder b)) [])) (accepted s) = ap (λ (o : Verdict State × List ℤ). o .0) e in
+    let q : stateOf (kept (inOrder b)) [] ≡ s = cc in
+    sym (ap (λ (x : State). x .settings .base) q))
+
+late-again : (b k : ℕ) (l : List ℤ) → opened (lateWith (2 * b) k) l ≡ opened (record { kind = Late; size = Steps b; gaps = k }) l
+unfolding baseOf
+late-again b k l = opened-kept (lateWith (2 * b) k) (record { kind = Late; size = Steps b; gaps = k }) refl l
+
 pub lists : Lists
-unfolding output begun
+unfolding output begun obeyed
 lists = record {
   default = λ l. refl;
+  by-steps = λ s l b. refl;
+  late-by-steps = λ g b k l m s e may. rw may (ap (λ (c : ℕ). answered (opened (lateWith c k) m)) (base-opened b l m s e) ∙ ap answered (late-again b k m));
   longest = refl;
   listed = λ pieces. ap written (fed-joined start pieces) ∙ ap (λ (q : Seen). shown (q .0) (q .1 .0) (q .1 .1)) (listed-whole (joined pieces));
   showable = λ pieces out e. rw (fed-joined start pieces) (whole-showable (joined pieces) out e);

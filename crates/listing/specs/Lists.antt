@@ -1,18 +1,21 @@
 -- What the program promises of any input, however it is cut.
 use Prim.Native.Nat.{ℕ}
 use mathlib.Core.Path.{_≡_}
+use mathlib.Core.Bool.{true}
 use mathlib.Core.List.{List, [], _∷_, _++_}
 use lib.IntN.{ℤ}
 use lib.ListN.{length, replicate}
-use Rattle.rule.specs.declared.Kind.the-variants.{InOrder}
+use Rattle.rule.specs.declared.Kind.the-variants.{InOrder, Late}
 use Rattle.rule.specs.declared.Size.the-variants.{Steps}
-use Rattle.rule.specs.Calls.{opened}
+use Rattle.rule.specs.declared.State.{State}
+use Rattle.rule.specs.Calls.{accepted, opened}
 use Rattle.rule.specs.Room.{zeros}
 use Rattle.trace.specs.Answers.{answered}
+use Rattle.notation.specs.declared.Line.{Line}
 use Rattle.notation.specs.Reading.{lineMost}
 use Rattle.listing.specs.declared.Feeding.{Feeding}
 use Rattle.listing.specs.declared.Stage.{Stage}
-use Rattle.listing.specs.Listing.{begun, output, roomSize, shown}
+use Rattle.listing.specs.Listing.{begun, lateMay, obeyed, output, roomSize, shown}
 use Rattle.listing.specs.Feeding.{Reader, Showable, fed, fresh, outputRoom, restFed}
 
 -- before the first byte, as the program lends room and line
@@ -39,6 +42,10 @@ written x = let e = atEnd x in shown (e .0 .last) (e .0 .lines) (e .1)
 pub record Lists : Type 0 where
   -- without a header B is 32, and a line has at most 64 bytes
   pub default : (l : List ℤ) → let o = answered (opened (record { kind = InOrder; size = Steps 32; gaps = 0 }) l) in begun l ≡ record { last = o .0; room = o .1; stage = Stage.Nothing; count = 0 }
+  -- `steps B` opens with that B; and `late K` behind it, or first, where it is 32, opens late with the same B
+  pub by-steps : (s : State) (l : List ℤ) (b : ℕ) → obeyed Stage.Nothing s l (Line.Steps b) ≡ answered (opened (record { kind = InOrder; size = Steps b; gaps = 0 }) l)
+  pub late-by-steps : (g : Stage) (b k : ℕ) (l m : List ℤ) (s : State) → opened (record { kind = InOrder; size = Steps b; gaps = 0 }) l ≡ (accepted s, m) → lateMay g ≡ true
+      → obeyed g s m (Line.Late k) ≡ answered (opened (record { kind = Late; size = Steps b; gaps = k }) m)
   pub longest : lineMost ≡ 64
   -- what is shown is the listing of the input
   pub listed : (pieces : List (List ℕ)) → written (fedAll start pieces) ≡ output (joined pieces)

@@ -25,7 +25,7 @@ fresh files = idle (now (ofBase 2) 0 0 0) (record { accepted = 0; refused = 0; m
 
 -- ---- in order
 
--- with one step: the first two of three readings become one bucket; every other call, what was saved is loaded by C, and again after an open by B; what is lent holds n
+-- with B = 1: the first two of three readings become one bucket; every other call, what was saved is loaded by C, and again after an open by B; what is lent holds n
 abbrev pub calls : ℕ → ℤ → ℤ → ℤ → List Call
 calls n x y z =
     opens (inOrder (Steps 1)) (replicate 12 (pos n))

@@ -17,7 +17,7 @@ use Rattle.rule.specs.declared.Settings.{Settings}
 use Rattle.rule.specs.declared.State.{State}
 use Rattle.rule.specs.declared.Found.{Found}
 use Rattle.rule.specs.Bucket.{end, error, level, spread}
-use Rattle.rule.specs.Bytes.{saved}
+use Rattle.rule.specs.Bytes.{recordsOf, saved}
 use Rattle.rule.specs.Calls.{Verdict, accepted, baseOf, checked, foundOf, found, gapsKept, isHeld, kept, late, lateVerdict, loaded, loadVerdict, lookupOutcome, nextVerdict, admitted, stateOf, traced}
 use Rattle.rule.specs.Numbers.{mostBase, recordWidth, slotWidth, ticks}
 use Rattle.rule.specs.Room.{laid, slots, sound, tableOf}
@@ -34,7 +34,7 @@ use Rattle.rule.proofs.Signed.{signed-fits}
 use Rattle.rooms.proofs.Sounding.{sound-facts, sound-ordered}
 use Rattle.rooms.proofs.Bounds.{bounds}
 use Rattle.rooms.specs.Left.{LeavesSound, LeftBy}
-use Rattle.storage.proofs.Filing.{save-writes}
+use Rattle.storage.proofs.Filing.{load-accepts, load-leaves, save-writes}
 use Rattle.storage.proofs.RoundTrips.{loaded-saved, saved-accepted, saved-loaded, saved-loaded-slots}
 use Rattle.rooms.proofs.Arriving.{late-free}
 use Rattle.rooms.proofs.Leaving.{late-either, late-leaves, next-either, next-leaves, open-either, open-leaves}
@@ -234,7 +234,15 @@ unfolding late limitOver
 late-limit InOrder base e = absurd (false≢true e)
 late-limit Late base e = refl
 
+load-names : (g : Opening) (file : List ℕ) (l : List ℤ) (t : State) → loaded g file l .0 ≡ accepted t → t .settings ≡ kept g
+load-names g file l t e =
+    let a = load-accepts g file l t e in
+    let f : _≡_ {A = Verdict State} (accepted t) (accepted (stateOf (kept g) (recordsOf file))) = sym e ∙ ap (λ (o : Verdict State × List ℤ). o .0) (load-leaves g file l (a .0) (a .1)) in
+    let q : t ≡ stateOf (kept g) (recordsOf file) = cc in
+    ap (λ (x : State). x .settings) q
+
 pub demand2 : Demand2
+unfolding baseNamed
 demand2 = record {
   buckets = λ r. keeps r .buckets;
   extremes = λ r. keeps r .extremes;
@@ -250,15 +258,21 @@ demand2 = record {
         ap (λ (o : Verdict State × List ℤ). o .0) (saved-loaded h s l room names (k .fit) enough),
         subst (λ (n : ℕ). take (4 * n) (loaded h (saved (tableOf s l)) room .1) ≡ take (4 * n) l) sized (saved-loaded-slots h s l room names (k .fit) enough),
       );
+  either-name = λ k b gaps. (record { kind = refl; base = refl; gaps = λ _. refl }, record { kind = refl; base = refl; gaps = λ _. refl });
+  loaded-named = λ g file l t e. let n = load-names g file l t e in (
+    ap (λ (x : Settings). x .kind) n,
+    ap (λ (x : Settings). x .base) n ∙ base-is (g .size),
+    ap (λ (x : Settings). x .gaps) n ∙ gaps-are (g .kind) (g .gaps),
+  );
   loaded-saved = loaded-saved;
 }
 
 pub demand3 : Demand3
 unfolding baseNamed
 demand3 = record {
-  picture = λ r. keeps r .picture;
+  picture-of-base = λ r c E few near. keeps r .picture c E (omega arith) near;
   picture-of-steps = λ r c E few near. keeps r .picture c E (omega arith) near;
-  size = λ r. keeps r .size;
-  size-of-steps = λ r. keeps r .size;
+  size-of-base = λ r. omega (arith, keeps r .size);
+  size-of-steps = λ r. omega (arith, keeps r .size);
   covers = λ r. keeps r .covers;
 }

@@ -10,7 +10,7 @@ use Rattle.rule.specs.declared.Found.{Found}
 use Rattle.rule.specs.declared.Kind.{Kind}
 use Rattle.rule.specs.declared.Opening.{Opening}
 use Rattle.rule.specs.declared.Settings.{Settings}
-use Rattle.rule.specs.declared.Size.the-variants.{Steps}
+use Rattle.rule.specs.declared.Size.the-variants.{Steps, Base}
 use Rattle.rule.specs.declared.State.{State}
 use Rattle.rule.specs.declared.Written.{Written}
 use Rattle.rule.specs.Bucket.{distance, error, level, spread}
@@ -74,20 +74,25 @@ pub record Demand2 : Type 0 where
       → saveOutcome s l out ≡ (Written.Buckets (s .used), saved (tableOf s l) ++ drop (16 * s .used) out)
   pub saved-loaded : {g h : Opening} {rs : List Reading} {s : State} {l : List ℤ} → Reached g rs s l → SameSettings h g → (room : List ℤ) → 4 * slotsNeeded (namedBy g) ≤ length room
       → let o = loaded h (saved (tableOf s l)) room in (o .0 ≡ accepted s) × (take (4 * slotsNeeded (namedBy g)) (o .1) ≡ take (4 * slotsNeeded (namedBy g)) l)
+  -- B and C = 2B are the same settings, whichever comes first
+  pub either-name : (k : Kind) (b gaps : ℕ) → let o : Opening = record { kind = k; size = Steps b; gaps = gaps } in let p : Opening = record { kind = k; size = Base (2 * b); gaps = gaps } in SameSettings o p × SameSettings p o
+  -- of bytes from anywhere, load keeps the kind, the base limit and K that it was given, K in order but for being kept as 0
+  pub loaded-named : (g : Opening) (file : List ℕ) (l : List ℤ) (t : State) → loaded g file l .0 ≡ accepted t
+      → (t .settings .kind ≡ g .kind) × (t .settings .base ≡ baseNamed (g .size)) × (t .settings .gaps ≡ cond (late (g .kind)) (g .gaps) 0)
   -- and bytes from anywhere that load accepts are the bytes that save writes of what it left
   pub loaded-saved : (g : Opening) (file : List ℕ) (l : List ℤ) (t : State) (out : List ℕ) → AllBytes file → loaded g file l .0 ≡ accepted t → length file ≤ length out
       → saveOutcome t (loaded g file l .1) out ≡ (Written.Buckets (length file / 16), file ++ drop (length file) out)
 
 -- Demand 3: nobody could have served better with half as many steps.
 pub record Demand3 : Type 0 where
-  -- for every C and every curve of at most (C + 1) / 2 flat steps, rounded down: where all readings are within E of it, lookup shows each within E, and the worst error is at most E
-  pub picture : {g : Opening} {rs : List Reading} {s : State} {l : List ℤ} → Reached g rs s l → (c : Curve) (E : ℕ) → steps c ≤ (baseNamed (g .size) + 1) / 2 → Near E c rs
-      → ((r : Reading) → List·Memᴰ r rs → Seen E s l r) × (worst (tableOf s l) ≤ E)
+  -- of a trace opened with C, for every curve of at most (C + 1) / 2 flat steps, rounded down: where all readings are within E of it, lookup shows each within E, and the worst error is at most E
+  pub picture-of-base : {k : Kind} {base gaps : ℕ} {rs : List Reading} {s : State} {l : List ℤ} → Reached (record { kind = k; size = Base base; gaps = gaps }) rs s l
+      → (c : Curve) (E : ℕ) → steps c ≤ (base + 1) / 2 → Near E c rs → ((r : Reading) → List·Memᴰ r rs → Seen E s l r) × (worst (tableOf s l) ≤ E)
   -- of a trace opened with B, document 01's own sentence: for every curve of at most B flat steps
   pub picture-of-steps : {k : Kind} {b gaps : ℕ} {rs : List Reading} {s : State} {l : List ℤ} → Reached (record { kind = k; size = Steps b; gaps = gaps }) rs s l
       → (c : Curve) (E : ℕ) → steps c ≤ b → Near E c rs → ((r : Reading) → List·Memᴰ r rs → Seen E s l r) × (worst (tableOf s l) ≤ E)
   -- ours has at most C steps, late one more for each unbroken run
-  pub size : {g : Opening} {rs : List Reading} {s : State} {l : List ℤ} → Reached g rs s l → s .used ≤ mostSteps (namedBy g) (runsOf rs)
+  pub size-of-base : {k : Kind} {base gaps : ℕ} {rs : List Reading} {s : State} {l : List ℤ} → Reached (record { kind = k; size = Base base; gaps = gaps }) rs s l → s .used ≤ base + cond (late k) (runsOf rs) 0
   -- opened with B, at most 2B, late one more for each unbroken run
   pub size-of-steps : {k : Kind} {b gaps : ℕ} {rs : List Reading} {s : State} {l : List ℤ} → Reached (record { kind = k; size = Steps b; gaps = gaps }) rs s l → s .used ≤ 2 * b + cond (late k) (runsOf rs) 0
   -- and covers exactly the ticks of the accepted readings, each once

@@ -1,4 +1,4 @@
--- The traces worked by hand in document 01, H1 to H12 (H6 and H7 with their levels rounded down), as one table: what the calls answer and leave in a room of one number more than is needed.
+-- The traces worked by hand in document 01, H1 to H12 (H6 and H7 with their levels rounded down), as one table: what the calls answer and leave in a room of one number more than is needed; and beyond them odd tables, and the bounds of B and C in no room.
 use Prim.Native.Nat.{ℕ, _*_, suc}
 use mathlib.Core.Path.{_≡_}
 use mathlib.Core.List.{List, [], _∷_, _++_}

@@ -1,5 +1,5 @@
 -- Soundness as the code tests it, one list in its order, and how many slots a sound state can use.
-use Prim.Native.Nat.{ℕ, _*_, _≤_}
+use Prim.Native.Nat.{ℕ, _≤_}
 use mathlib.Core.Path.{_≡_, sym, _∙_}
 use mathlib.Core.Bool.{Bool, true, false, and-assoc}
 use mathlib.Core.List.{List, [], _∷_}

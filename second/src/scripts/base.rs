@@ -4,7 +4,7 @@
 use crate::calls::{needed_numbers, Size, MOST_BASE, MOST_STEPS, SLOT};
 use crate::command::{Name, Word};
 use crate::rule::{self, Bucket, Kind};
-use crate::script::Script;
+use crate::script::{nearest_base, Script};
 
 /// So many opens and as many loads of each size and kind, of which every sixth is in a room that is short.
 const OF_EACH_SIZE: usize = 126;
@@ -80,10 +80,7 @@ impl Script {
     /// An open and a load by these numbers, each of which leaves a trace for a reading where it is accepted.
     fn named_twice(&mut self, turn: usize, kind: Kind, size: u64, by: u64) {
         let gaps = self.random.choice(&[1, 2, 3, 9]);
-        let base = match by {
-            0 => 2 * size.clamp(1, MOST_STEPS),
-            _ => size.clamp(1, MOST_BASE),
-        };
+        let base = nearest_base(size, by);
         let fitting = needed_numbers(kind, base, gaps);
         // Late, K slots too few at the most.
         let slots = if kind == Kind::Late { gaps } else { 1 };
@@ -120,7 +117,7 @@ impl Script {
                 self.row(base + 20);
             }
         }
-        for base in [511, 512] {
+        for base in [101, 255, 401, 511, 512] {
             self.open_fitting(kind, Size::Base(base), 20);
             self.feed_any(kind, 2, 5, base + 170);
             self.worst();
@@ -138,7 +135,7 @@ impl Script {
         }
     }
 
-    /// Full or not; the last load is by the base limit itself, and a reading goes on from it.
+    /// Full or not; a reading goes on from each load that is accepted, and the trace is loaded anew behind it.
     fn loaded_otherwise(&mut self, turn: usize) {
         let kind = KINDS[turn % 2];
         let base = self.random.between(1, 12) as u64 * (1 + turn as u64 / 2 % 2);

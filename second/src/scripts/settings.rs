@@ -1,9 +1,9 @@
 //! Open and load by settings of all 64 bits, each bound of B, C and K from both sides, and rooms about the needed length that hold what was there before.
 
-use crate::calls::{self, Size, MOST_BASE, MOST_GAPS, MOST_STEPS};
+use crate::calls::{self, Size, MOST_GAPS};
 use crate::command::Word;
 use crate::rule::Kind;
-use crate::script::Script;
+use crate::script::{nearest_base, Script};
 use crate::session::NUMBERS;
 
 const KINDS: [u64; 5] = [0, 1, 7, 1 << 32, u64::MAX];
@@ -71,10 +71,7 @@ impl Script {
             for (size, by) in SIZES {
                 for gaps in GAPS {
                     let trace_kind = if kind == 0 { Kind::InOrder } else { Kind::Late };
-                    let base = match by {
-                        0 => 2 * size.clamp(1, MOST_STEPS),
-                        _ => size.clamp(1, MOST_BASE),
-                    };
+                    let base = nearest_base(size, by);
                     let fitting = calls::needed_numbers(trace_kind, base, gaps.clamp(1, MOST_GAPS));
                     let numbers = fitting + 1 - self.random.below(3) as usize;
                     self.room(numbers);

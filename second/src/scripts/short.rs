@@ -60,6 +60,14 @@ impl Script {
             }
             self.worst();
         }
+        // In a room that is a number short, and in one that is exactly as long as is needed.
+        for numbers in [31, 32] {
+            self.open(Kind::InOrder, Base(7), 0, numbers);
+        }
+        for value in 0..12 {
+            self.next(value * value);
+        }
+        self.worst();
     }
 
     fn short_outputs(&mut self) {

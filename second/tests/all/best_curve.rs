@@ -2,17 +2,19 @@
 
 use crate::support::{random_value, Trace};
 use second::arrivals::{self, PERTURBATION};
-use second::calls::{Refusal, Size::Base, MOST_BASE, MOST_GAPS, RUNS, TAKEN};
+use second::calls::{
+    self, Refusal, Size::Base, State, MOST_BASE, MOST_GAPS, RUNS, SLOT, TAKEN, UNSOUND,
+};
 use second::random::Random;
 use second::rule::{self, worst_error, Bucket, Kind};
 use std::collections::BTreeMap;
 
 /// Of each base limit as many; half of them are odd.
-const TABLES_OF_A_KIND: u64 = 18_000;
+const TABLES_OF_A_KIND: u64 = 34_000;
 const BASES: u64 = 8;
 const READINGS: u64 = 24;
 /// Tables of odd C in which something was merged, of each kind.
-const ODD_AND_MERGED: u64 = 5_000;
+const ODD_AND_MERGED: u64 = 10_000;
 
 fn promised(base: u64) -> u64 {
     base.div_ceil(2)
@@ -135,10 +137,27 @@ fn of_every_base_limit() {
         let values: Vec<i64> = values.into_iter().map(i64::from).collect();
         for trace in [in_order, late] {
             assert_eq!(trace.state.base, base);
+            is_full(&trace);
             let worst = worst_error(&trace.buckets());
             assert!(!is_beaten(&values, promised(base), worst), "{base}");
         }
     }
+}
+
+/// All ticks are there, so one run: as many buckets as the limit allows, and one more is too many.
+fn is_full(trace: &Trace) {
+    let State {
+        kind,
+        base,
+        used,
+        readings,
+        ..
+    } = trace.state;
+    assert_eq!(used, base + u64::from(kind == Kind::Late));
+    let (mut state, mut room) = (trace.state, trace.room.clone());
+    room[used as usize * SLOT..][..SLOT].copy_from_slice(&[readings as i64, 1, 0, 0]);
+    (state.used, state.readings) = (used + 1, readings + 1);
+    assert_eq!(calls::worst(state, &room), Err(Refusal::of(UNSOUND)));
 }
 
 #[test]

@@ -2,7 +2,7 @@
 use borrow.Author.Needs.{needs}
 use borrow.Author.Tests.{eq-eqb, le-ltb, lt-ltb, ne-eqb}
 use native.Mathlib.Omega.{arith}
-use Prim.Native.Nat.{_*_, _%_, _/_}
+use Prim.Native.Nat.{_%_, _/_}
 use mathlib.Core.Path.{_≡_, ap}
 use mathlib.Core.Bool.{Bool, true, not}
 use lib.Dec.{eqb}

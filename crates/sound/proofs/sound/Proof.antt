@@ -99,7 +99,7 @@ pub sound-spec : {M : Type 1} → statement M
 sound-spec =
     tie.close
     (tie.spec
-    (λ c κs. search needs)  -- steps-good-requires
+    (λ c κs. search needs)  -- bounded-requires
     returns
     (λ c κs. search needs)  -- gaps-good-requires
     returns-2

@@ -89,7 +89,7 @@ static void line(const char *what, uint32_t turns, double library, double plain)
 
 static void readings(ndz_settings settings, uint32_t count, int unchecked)
 {
-    size_t numbers = NDZ_NUMBERS(settings.kind, settings.size, settings.gaps);
+    size_t numbers = settings.by ? NDZ_NUMBERS_BASE(settings.kind, settings.size, settings.gaps) : NDZ_NUMBERS(settings.kind, settings.size, settings.gaps);
     int late = settings.kind == NDZ_LATE;
     ndz_state library = ndz_open(settings, library_room, numbers).state;
     ndz_state plain = plain_open(settings, plain_room, numbers).state;
@@ -104,7 +104,7 @@ static void readings(ndz_settings settings, uint32_t count, int unchecked)
     }
     same(&library, &plain, numbers);
     char what[80];
-    snprintf(what, sizeof what, "%s, B = %" PRIu64 "%s", late ? "late" : "next", settings.size, late ? ", K = 256" : "");
+    snprintf(what, sizeof what, "%s, %s = %" PRIu64 "%s", late ? "late" : "next", settings.by ? "C" : "B", settings.size, late ? ", K = 256" : "");
     line(what, count, of_library, of_plain);
     if (!unchecked)
         return;
@@ -167,6 +167,8 @@ int main(int argc, char **argv)
     static const uint64_t sizes[] = {1, 4, 16, 64, 256};
     for (int i = 0; i < 5; i++)
         readings((ndz_settings){.kind = NDZ_IN_ORDER, .size = sizes[i]}, count / 10, 0);
+    for (uint64_t base = 63; base <= 65; base++)
+        readings((ndz_settings){.kind = NDZ_IN_ORDER, .size = base, .by = NDZ_BY_BASE}, count / 10, 0);
     files(count / 100);
     return 0;
 }

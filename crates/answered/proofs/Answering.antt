@@ -21,7 +21,7 @@ use Rattle.rule.specs.declared.State.{State}
 use Rattle.rule.specs.declared.Tally.{Tally}
 use Rattle.rule.specs.Answers.{number, place}
 use Rattle.rule.specs.Bytes.{recordsOf, saved}
-use Rattle.rule.specs.Calls.{Check, Verdict, accepted, admitted, baseOf, checked, counted, fileVerdict, found, foundOf, gapsKept, grown, isHeld, kept, late, lateVerdict, loadVerdict, loaded, lookupOutcome, measured, nextVerdict, refused, sizeGood, traced, worstOutcome, writeVerdict, wrote}
+use Rattle.rule.specs.Calls.{Check, Verdict, accepted, admitted, baseOf, checked, counted, fileVerdict, found, foundOf, gapsKept, grown, isHeld, kept, late, lateVerdict, loadVerdict, loaded, lookupOutcome, measured, nextVerdict, opened, refused, sizeGood, traced, worstOutcome, writeVerdict, wrote}
 use Rattle.rule.specs.Numbers.{most, mostBase, recordWidth, slotWidth, tallyMost, ticks, word}
 use Rattle.rule.specs.Files.{Finds, FirstBroken, meets}
 use Rattle.rule.specs.Room.{bounded, laid, signed, gapsGood, roomy, runsAllowed, sound, tableOf}
@@ -30,8 +30,8 @@ use Rattle.rule.specs.Table.{Table, accept, holding, insert, limit, limitOver, 
 use Rattle.rule.proofs.Merging.{settle-runs}
 use Rattle.rule.proofs.Ruling.{Meets, facts-meets, first-is-first, meets-facts}
 use Rattle.rule.proofs.Signed.{signed-fits}
-use Rattle.rooms.proofs.Bounds.{size-base}
-use Rattle.rooms.proofs.Granting.{loaded-kept, opened-kept}
+use Rattle.rooms.proofs.Bounds.{in-bounds, size-base}
+use Rattle.rooms.proofs.Granting.{Granted, admits as grants, loaded-kept, opened-kept}
 use Rattle.rooms.proofs.Laying.{drop-laid}
 use Rattle.rooms.specs.Steps.{Ready}
 use Rattle.rooms.proofs.Sounding.{sound-facts, used-needed}
@@ -276,8 +276,23 @@ load-past g file l (accepted t, m) e =
     let left : m ≡ laid (needed (kept g)) (recordsOf file) l = ap (λ (o : Verdict State × List ℤ). o .1) (sym e ∙ load-leaves g file l (a .0) (a .1)) in
     ap (drop (slotWidth * needed (kept g))) left ∙ drop-laid (needed (kept g)) (recordsOf file) l (omega (arith, loads-needed (kept g) file (a .1))) (needed (kept g)) (omega arith)
 
+-- ---- every good C is taken
+
+gaps-fine : (k : Kind) (gaps : ℕ) → (late k ≡ true → (1 ≤ gaps) × (gaps ≤ 256)) → gapsGood k (gapsKept k gaps) ≡ true
+unfolding gapsGood gapsKept late
+gaps-fine InOrder gaps h = refl
+gaps-fine Late gaps h = in-bounds most gaps (h refl)
+
+any-base : (k : Kind) (c gaps : ℕ) (l : List ℤ) → 1 ≤ c → c ≤ 512 → (late k ≡ true → (1 ≤ gaps) × (gaps ≤ 256)) → 4 * (c + cond (late k) gaps 0 + 1) ≤ length l
+    → said (opened (record { kind = k; size = Base c; gaps = gaps }) l .0) ≡ none
+unfolding baseOf baseNamed said traced
+any-base k c gaps l low high fine long =
+    let o : Opening = record { kind = k; size = Base c; gaps = gaps } in
+    let granted : Granted (kept o) l = record { base = in-bounds mostBase c (low, high); gaps = gaps-fine k gaps fine; long = omega (arith, long, needed-is o) } in
+    ap (λ (v : Verdict Table). said (traced (kept o) l v .0)) (grants o l granted (accepted []))
+
 pub demand1 : Demand1
-unfolding nextVerdict lateVerdict lookupOutcome writeVerdict ruled said firstOf late
+unfolding nextVerdict lateVerdict lookupOutcome writeVerdict ruled said firstOf late baseNamed
 demand1 = record {
   opens = λ g l. answered (kept g) l (admitted g l (accepted [])) (openRows g l) (admits g l (accepted []) [] refl);
   nexts = λ s l v. answered (s .settings) l (nextVerdict s l v) (nextRows s l) (said-all _ _);
@@ -290,6 +305,8 @@ demand1 = record {
   saves = λ s l out. written saved out (writeVerdict s l (recordWidth * s .used) (length out)) (writeRows s l (length out) (recordWidth * s .used)) (writes s l (length out) (recordWidth * s .used));
   loads = λ g file l. answered (kept g) l (loadVerdict g file l) (openRows g l ++ fileRows g file)
       (loading g file l);
+  any-base = λ k c gaps l low high. any-base k c gaps l low (omega arith);
+  names = λ b c. (refl, refl);
   one-law = λ z. sym (size-due z) ∙ ap not (size-base z) ∙ bounds mostBase (baseOf z) ∙ ap (outside 512) (base-is z);
   same-open = λ k b gaps l. opened-kept _ _ (doubled k b gaps) l;
   same-load = λ k b gaps file l. loaded-kept _ _ (doubled k b gaps) file l;

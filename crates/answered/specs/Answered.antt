@@ -181,6 +181,10 @@ pub record Demand1 : Type 0 where
   pub rows : (s : State) (l : List ℤ) (out : List Bucket) → let o = rowOutcome s l out in Answered (saidWritten (o .0)) (writeRows s l (length out) (s .used)) out (o .1)
   pub saves : (s : State) (l : List ℤ) (out : List ℕ) → let o = saveOutcome s l out in Answered (saidWritten (o .0)) (writeRows s l (length out) (16 * s .used)) out (o .1)
   pub loads : (g : Opening) (file : List ℕ) (l : List ℤ) → let o = loaded g file l in Answered (said (o .0)) (openRows g l ++ fileRows g file) l (o .1)
+  -- a trace opens with any C from 1 to 512, where K is 1 to 256 late and the room is long enough; so with any B from 1 to 256, by `same-open`
+  pub any-base : (k : Kind) (c gaps : ℕ) (l : List ℤ) → 1 ≤ c → c ≤ 512 → (late k ≡ true → (1 ≤ gaps) × (gaps ≤ 256)) → 4 * (c + cond (late k) gaps 0 + 1) ≤ length l
+      → said (opened (record { kind = k; size = Base c; gaps = gaps }) l .0) ≡ none
+  pub names : (b c : ℕ) → (baseNamed (Steps b) ≡ 2 * b) × (baseNamed (Base c) ≡ c)
   -- B is C = 2B: refusal 1 is one law of the base limit, and open and load answer and leave the same, refused or not; every other call reads the state alone
   pub one-law : (z : Size) → sizeOutside z ≡ outside 512 (baseNamed z)
   pub same-open : (k : Kind) (b gaps : ℕ) (l : List ℤ) → opened (record { kind = k; size = Steps b; gaps = gaps }) l ≡ opened (record { kind = k; size = Base (2 * b); gaps = gaps }) l

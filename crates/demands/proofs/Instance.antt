@@ -1,6 +1,6 @@
 -- Document 01's own rule, with its lowest start and any base limit, is one of the rules of which demand 3 is proved.
-use Prim.Native.Nat.{ℕ, zero, suc, _+_, _≤_, _<_}
-use mathlib.Core.Path.{sym, subst}
+use Prim.Native.Nat.{ℕ, zero, suc, _+_, _≤_, _<_, min}
+use mathlib.Core.Path.{_≡_, sym, subst, ap, _∙_}
 use mathlib.Core.List.{List, [], _∷_}
 use native.Mathlib.Omega.{arith}
 use borrow.Author.Tests.{leb-true, leb-false}
@@ -12,8 +12,9 @@ use Rattle.rule.specs.declared.Settings.{Settings}
 use Rattle.rule.specs.Table.{Table, accept, insert, limit, limitOver, merge, runs, settle, single}
 use Rattle.rule.proofs.Whole.{by-test}
 use Rattle.rule.proofs.Merging as merging
-use Rattle.rule.proofs.Merging.{Enough, merge-length, merge-runs, settle-merges, settle-rests}
-use Rattle.demands.specs.History.{Accepted, Held, Merge, Reading, Settles, accepted, merges, opened, rests, tableAfter}
+use Rattle.rule.proofs.Merging.{Enough, merge-length, merge-runs, settle-length, settle-merges, settle-rests, settle-runs}
+use Rattle.rule.proofs.Tables.{insert-length}
+use Rattle.demands.specs.History.{Accepted, Held, Merge, Reading, Settles, accepted, merges, opened, rests, runsOf, tableAfter}
 use Rattle.demands.specs.Served.{Served}
 use Rattle.demands.proofs.Demand3.{held-invariant, served}
 use Rattle.demands.proofs.Invariant.{Joined, reading-invariant}
@@ -72,3 +73,14 @@ pub demand3 : (s : Settings) (rs : List Reading) → 1 ≤ s .base → Accepted 
 demand3 s rs few a =
     let held = instance-held s rs few a in
     (held .0, served (s .kind) (s .base) rs (tableAfter s rs) (held .0) (omega arith) (held .1))
+
+-- a reading brings one bucket, and merging ends at the limit of the true runs
+pub instance-length : (s : Settings) (r : Reading) (rs : List Reading) → 1 ≤ s .base → Accepted s (r ∷ rs)
+    → length (tableAfter s (r ∷ rs)) ≡ min (length (tableAfter s rs) + 1) (limit s (runsOf (r ∷ rs)))
+unfolding Accepted tableAfter accept
+instance-length s r rs few a =
+    let table : Table = insert (single (r .tick) (r .value)) (tableAfter s rs) in
+    let invariant = reading-invariant (s .kind) rs (tableAfter s rs) (held-invariant (instance-held s rs few (a .1) .1)) r (a .0) in
+    let enough : Enough s table = enough-runs (s .kind) (s .base) (runs table) (omega arith) (invariant .joined) in
+    let counted : runs (settle s table) ≡ runsOf (r ∷ rs) = demand3 s (r ∷ rs) few a .1 .true-runs in
+    omega (arith, settle-length s (length table) table (omega arith) enough, insert-length (single (r .tick) (r .value)) (tableAfter s rs), ap (limit s) (sym (settle-runs s table enough) ∙ counted))

@@ -393,6 +393,7 @@ promises {named} {rs} {f} {l} c =
 pub exported-demand2 : ExportedDemand2
 unfolding telling
 exported-demand2 = record {
+  begins = λ named l z. Called.opens l refl z;
   load-named = λ named file l z.
       let h : Opening = openingOf named in
       let r : Reply = replying none (answer (loaded h file l .0)) in

@@ -197,10 +197,13 @@ pub record Promised (named : Named) (rs : List Reading) (f : Fields) (l : List �
   -- ndz_lookup shows exactly the ticks of the accepted readings: any other is refused, above the last tick by 6 and else by 12
   pub covers : (tick : ℕ) → lookupReply f l tick .refusal ≡ cond (arrived tick rs) 0 (cond (leb 16777216 tick) 6 12)
 
--- demand 2 of bytes from anywhere: what ndz_load accepts, ndz_save writes, and nothing behind it
+-- where what is promised begins, and demand 2 of bytes from anywhere
 pub record ExportedDemand2 : Type 0 where
-  -- and ndz_load keeps what was named: a late kind is 1, B is kept as 2B, and in order K as 0
+  -- what is promised is promised of every accepted opening, by B or by C, odd or even
+  pub begins : (named : Named) (l : List ℤ) → let o = openReply named l in o .0 .refusal ≡ 0 → Called named [] (o .0 .state) (o .1)
+  -- ndz_load keeps what was named: a late kind is 1, B is kept as 2B, and in order K as 0
   pub load-named : (named : Named) (file : List ℕ) (l : List ℤ) → let r = loadReply named file l .0 in r .refusal ≡ 0
       → (r .state .kind ≡ numberOf (kindOf (named .kind))) × (r .state .base ≡ cond (eqb (named .by) 0) (2 * named .size) (named .size)) × (r .state .gaps ≡ cond (late (kindOf (named .kind))) (named .gaps) 0)
+  -- and what it accepts, ndz_save writes, and nothing behind it
   pub same-bytes : (named : Named) (file out : List ℕ) (l : List ℤ) → AllBytes file → length file ≤ length out → let o = loadReply named file l in o .0 .refusal ≡ 0
       → saveReply (o .0 .state) (o .1) out ≡ (wroteAll (length file / 16), file ++ drop (length file) out)

@@ -40,7 +40,7 @@ use Rattle.rooms.proofs.Arriving.{late-free}
 use Rattle.rooms.proofs.Leaving.{late-either, late-leaves, next-either, next-leaves, open-either, open-leaves}
 use Rattle.demands.specs.History.{Accepted, Reading, Takes, arrived, runsOf, tableAfter}
 use Rattle.demands.specs.Served.{Served}
-use Rattle.demands.proofs.Instance.{demand3 as of-tables}
+use Rattle.demands.proofs.Instance.{demand3 as of-tables, instance-length}
 use Rattle.promises.specs.Reached.{Reached, SameSettings, late-refused, lates, load-refused, loads, next-refused, nexts, open-refused, opens}
 use Rattle.answered.specs.Answered.{baseNamed, namedBy, slotsNeeded}
 use Rattle.promises.specs.Demands.{Demand2, Demand3, Upheld}
@@ -234,6 +234,18 @@ unfolding late limitOver
 late-limit InOrder base e = absurd (false≢true e)
 late-limit Late base e = refl
 
+late-gaps : (k : Kind) (gaps : ℕ) → late k ≡ true → gapsKept k gaps ≡ gaps
+late-gaps k gaps e = gaps-are k gaps ∙ rw e
+
+same-kept : (h g : Opening) → kept h ≡ kept g → SameSettings h g
+same-kept h g e =
+    let kind : h .kind ≡ g .kind = ap (λ (x : Settings). x .kind) e in
+    record {
+      kind = kind;
+      base = sym (base-is (h .size)) ∙ ap (λ (x : Settings). x .base) e ∙ base-is (g .size);
+      gaps = λ l. sym (late-gaps (h .kind) (h .gaps) (ap late kind ∙ l)) ∙ ap (λ (x : Settings). x .gaps) e ∙ late-gaps (g .kind) (g .gaps) l;
+    }
+
 load-names : (g : Opening) (file : List ℕ) (l : List ℤ) (t : State) → loaded g file l .0 ≡ accepted t → t .settings ≡ kept g
 load-names g file l t e =
     let a = load-accepts g file l t e in
@@ -248,6 +260,10 @@ demand2 = record {
   extremes = λ r. keeps r .extremes;
   gapless = λ {g} {rs} {s} {l} r b m tick h. counted-once (arrived tick rs) (omega (arith, keeps r .covers tick, held-member tick m h));
   spreads = λ {g} {rs} {s} {l} r b m. spread-small b (fitting-member (fitted-slots l 0 (s .used) (sound-facts s l (keeps r .fit) .ranges)) m);
+  settled = λ {g} {r} {rs} {s} {l} q.
+      let k = known q in
+      let positive : 1 ≤ s .settings .base = bounds mostBase (s .settings .base) (sound-facts s l (k .fit) .base-good) .0 in
+      omega (arith, length-slots l 0 (s .used), ap length (k .buckets), instance-length (s .settings) r rs positive (k .taken), ap (λ (x : Settings). length (tableAfter x rs)) (k .named), ap (λ (x : Settings). limit x (runsOf (r ∷ rs))) (k .named), limit-named g (runsOf (r ∷ rs)));
   one-run = λ s e. late-limit (s .kind) (s .base) e;
   saves = λ {g} {rs} {s} {l} r out long. save-writes s l out (keeps r .fit) long;
   saved-loaded = λ {g} {h} {rs} {s} {l} r same room long.
@@ -258,7 +274,7 @@ demand2 = record {
         ap (λ (o : Verdict State × List ℤ). o .0) (saved-loaded h s l room names (k .fit) enough),
         subst (λ (n : ℕ). take (4 * n) (loaded h (saved (tableOf s l)) room .1) ≡ take (4 * n) l) sized (saved-loaded-slots h s l room names (k .fit) enough),
       );
-  either-name = λ k b gaps. (record { kind = refl; base = refl; gaps = λ _. refl }, record { kind = refl; base = refl; gaps = λ _. refl });
+  same-settings = λ h g. (kept-same h g, same-kept h g);
   loaded-named = λ g file l t e. let n = load-names g file l t e in (
     ap (λ (x : Settings). x .kind) n,
     ap (λ (x : Settings). x .base) n ∙ base-is (g .size),
@@ -270,6 +286,7 @@ demand2 = record {
 pub demand3 : Demand3
 unfolding baseNamed
 demand3 = record {
+  begins = λ g l e. opens l e;
   picture-of-base = λ r c E few near. keeps r .picture c E (omega arith) near;
   picture-of-steps = λ r c E few near. keeps r .picture c E (omega arith) near;
   size-of-base = λ r. omega (arith, keeps r .size);

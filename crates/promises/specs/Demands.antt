@@ -1,8 +1,8 @@
 -- Demands 2 and 3: of a state and a room that were reached, and of everything that can be.
-use Prim.Native.Nat.{ℕ, _≤_, _+_, _*_, _/_}
+use Prim.Native.Nat.{ℕ, _≤_, _+_, _*_, _/_, min}
 use mathlib.Core.Path.{_≡_}
 use mathlib.Core.Bool.{true, false, cond}
-use mathlib.Core.List.{List, _++_, List·Memᴰ}
+use mathlib.Core.List.{List, [], _∷_, _++_, List·Memᴰ}
 use lib.IntN.{ℤ}
 use lib.ListN.{drop, length, take}
 use Rattle.rule.specs.declared.Bucket.{Bucket}
@@ -15,7 +15,7 @@ use Rattle.rule.specs.declared.State.{State}
 use Rattle.rule.specs.declared.Written.{Written}
 use Rattle.rule.specs.Bucket.{distance, error, level, spread}
 use Rattle.rule.specs.Bytes.{saved}
-use Rattle.rule.specs.Calls.{accepted, kept, late, loaded, lookupOutcome, saveOutcome}
+use Rattle.rule.specs.Calls.{accepted, kept, late, loaded, lookupOutcome, opened, saveOutcome}
 use Rattle.rule.specs.Room.{sound, tableOf}
 use Rattle.rule.specs.Table.{holders, holds, limit, nextTick, worst}
 use Rattle.storage.specs.Bytes.{AllBytes}
@@ -67,6 +67,9 @@ pub record Demand2 : Type 0 where
   -- none spans a tick that has not arrived
   pub gapless : {g : Opening} {rs : List Reading} {s : State} {l : List ℤ} → Reached g rs s l → (b : Bucket) → List·Memᴰ b (tableOf s l) → (tick : ℕ) → holds tick b ≡ true → arrived tick rs ≡ true
   pub spreads : {g : Opening} {rs : List Reading} {s : State} {l : List ℤ} → Reached g rs s l → (b : Bucket) → List·Memᴰ b (tableOf s l) → spread b ≤ 4294967295
+  -- a reading brings one bucket, and merging ends at the limit and not below it: C in order, late C and the true runs of the arrived ticks
+  pub settled : {g : Opening} {r : Reading} {rs : List Reading} {s : State} {l : List ℤ} → Reached g (r ∷ rs) s l
+      → s .used ≡ min (length (tableAfter (kept g) rs) + 1) (mostSteps (namedBy g) (runsOf (r ∷ rs)))
   -- late, readings that happen to arrive in order are one run: the limit is C + 1, which is 2B + 1 where B was named
   pub one-run : (s : Settings) → late (s .kind) ≡ true → limit s 1 ≡ s .base + 1
   -- save writes the buckets and nothing behind them, and load of these bytes with the same settings is the same trace, the same state and the same slots
@@ -74,8 +77,8 @@ pub record Demand2 : Type 0 where
       → saveOutcome s l out ≡ (Written.Buckets (s .used), saved (tableOf s l) ++ drop (16 * s .used) out)
   pub saved-loaded : {g h : Opening} {rs : List Reading} {s : State} {l : List ℤ} → Reached g rs s l → SameSettings h g → (room : List ℤ) → 4 * slotsNeeded (namedBy g) ≤ length room
       → let o = loaded h (saved (tableOf s l)) room in (o .0 ≡ accepted s) × (take (4 * slotsNeeded (namedBy g)) (o .1) ≡ take (4 * slotsNeeded (namedBy g)) l)
-  -- B and C = 2B are the same settings, whichever comes first
-  pub either-name : (k : Kind) (b gaps : ℕ) → let o : Opening = record { kind = k; size = Steps b; gaps = gaps } in let p : Opening = record { kind = k; size = Base (2 * b); gaps = gaps } in SameSettings o p × SameSettings p o
+  -- the same settings are those of which the same is kept, named by B or by C
+  pub same-settings : (h g : Opening) → (SameSettings h g → kept h ≡ kept g) × (kept h ≡ kept g → SameSettings h g)
   -- of bytes from anywhere, load keeps the kind, the base limit and K that it was given, K in order but for being kept as 0
   pub loaded-named : (g : Opening) (file : List ℕ) (l : List ℤ) (t : State) → loaded g file l .0 ≡ accepted t
       → (t .settings .kind ≡ g .kind) × (t .settings .base ≡ baseNamed (g .size)) × (t .settings .gaps ≡ cond (late (g .kind)) (g .gaps) 0)
@@ -85,6 +88,8 @@ pub record Demand2 : Type 0 where
 
 -- Demand 3: nobody could have served better with half as many steps.
 pub record Demand3 : Type 0 where
+  -- it is said of every accepted opening, by B or by C, odd or even
+  pub begins : (g : Opening) (l : List ℤ) {s : State} {m : List ℤ} → opened g l ≡ (accepted s, m) → Reached g [] s m
   -- of a trace opened with C, for every curve of at most (C + 1) / 2 flat steps, rounded down: where all readings are within E of it, lookup shows each within E, and the worst error is at most E
   pub picture-of-base : {k : Kind} {base gaps : ℕ} {rs : List Reading} {s : State} {l : List ℤ} → Reached (record { kind = k; size = Base base; gaps = gaps }) rs s l
       → (c : Curve) (E : ℕ) → steps c ≤ (base + 1) / 2 → Near E c rs → ((r : Reading) → List·Memᴰ r rs → Seen E s l r) × (worst (tableOf s l) ≤ E)

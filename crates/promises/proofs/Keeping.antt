@@ -79,7 +79,7 @@ kept-gaps Late m n e = e refl
 pub kept-same : (h g : Opening) → SameSettings h g → kept h ≡ kept g
 kept-same h g same =
     let gaps : gapsKept (h .kind) (h .gaps) ≡ gapsKept (g .kind) (g .gaps) = ap (λ (k : Kind). gapsKept k (h .gaps)) (same .kind) ∙ kept-gaps (g .kind) (h .gaps) (g .gaps) (same .gaps) in
-    let base : baseOf (h .size) ≡ baseOf (g .size) = base-is (h .size) ∙ same .base ∙ sym (base-is (g .size)) in
+    let base : baseOf (h .size) ≡ baseOf (g .size) = omega (arith, same .base, base-is (h .size), base-is (g .size)) in
     λ i. record { kind = same .kind i; base = base i; gaps = gaps i }
 
 -- K as kept, in 01's words
@@ -242,7 +242,7 @@ same-kept h g e =
     let kind : h .kind ≡ g .kind = ap (λ (x : Settings). x .kind) e in
     record {
       kind = kind;
-      base = sym (base-is (h .size)) ∙ ap (λ (x : Settings). x .base) e ∙ base-is (g .size);
+      base = omega (arith, ap (λ (x : Settings). x .base) e, base-is (h .size), base-is (g .size));
       gaps = λ l. sym (late-gaps (h .kind) (h .gaps) (ap late kind ∙ l)) ∙ ap (λ (x : Settings). x .gaps) e ∙ late-gaps (g .kind) (g .gaps) l;
     }
 

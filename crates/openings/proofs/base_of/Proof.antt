@@ -18,11 +18,11 @@ mul-result c =
 
 returns : tie.Need-returns
 unfolding baseOf
-returns c = rw (c .before .size .given .1)
+returns c = rw (c .before .size .given .1) (omega arith)
 
 returns-2 : tie.Need-returns-2
 unfolding baseOf
-returns-2 c = rw (c .before .size2 .given .1)
+returns-2 c = rw (c .before .size2 .given .1) (omega arith)
 
 pub base-of-spec : {M : Type 1} → statement M
 base-of-spec =

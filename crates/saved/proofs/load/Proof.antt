@@ -56,7 +56,8 @@ clear-requires c κs =
     let a = c .before .before .before .before .before .before .before .before .before .before .before .before .before .before .args in
     let g = granted (c .before .before .before .before .before .before .before .before .before) in
     let same = loaded-length (a .file .now) (a .room .now) (length (a .file .now) / recordWidth) (c .before .before .load-slots .last .1 .1 .0) (omega (arith, few (c .before .before .before .before .before), g .2, g .0 .long)) (c .before .before .load-slots .ensures) in
-    (omega (arith, few (c .before .before .before .before .before)), omega (arith, same, g .2, g .0 .long))
+    let fits = few (c .before .before .before .before .before) in
+    (omega (arith, fits), omega (arith, fits, same, g .2, g .0 .long))
 
 returns : tie.Need-returns
 unfolding traced answer

@@ -17,11 +17,11 @@ add-result c = omega (arith, rw (c .before .enum-told2 .given .1) at (c .before 
 
 returns : tie.Need-returns
 unfolding limitOver
-returns c = rw (c .enum-told .given .1)
+returns c = rw (c .enum-told .given .1) (omega arith)
 
 returns-2 : tie.Need-returns-2
 unfolding limitOver
-returns-2 c = rw (c .before .enum-told2 .given .1)
+returns-2 c = rw (c .before .enum-told2 .given .1) (omega arith)
 
 pub limit-spec : {M : Type 1} → statement M
 limit-spec =

@@ -10,6 +10,7 @@
 
 typedef ndz_answer (*next_call)(ndz_state, int64_t *, size_t, int32_t);
 typedef ndz_answer (*late_call)(ndz_state, int64_t *, size_t, uint32_t, int32_t);
+typedef ndz_replayed (*replay_call)(ndz_settings, const uint8_t *, size_t, int64_t *, size_t);
 
 static int64_t library_room[NUMBERS], plain_room[NUMBERS];
 
@@ -65,6 +66,62 @@ static double feed_late(late_call call, ndz_state *state, int64_t *room, size_t 
     return now() - begun;
 }
 
+/* ---- the logger's recordings: of each 32 ticks the first eight come last, together, and every thousandth record comes twice */
+
+static uint32_t tick_of_frame(uint32_t turn)
+{
+    uint32_t place = turn - turn / 1000;
+    return (place & ~31u) + (place + 8) % 32;
+}
+
+static void make_frames(uint8_t *recording, uint32_t frames)
+{
+    for (uint32_t i = 0; i < frames; i++) {
+        uint32_t tick = tick_of_frame(i), value = (uint32_t)value_at(tick);
+        uint8_t *frame = recording + (size_t)NDZ_FRAME_BYTES * i;
+        frame[0] = (uint8_t)tick;
+        frame[1] = (uint8_t)(tick >> 8);
+        for (int byte = 0; byte < 4; byte++)
+            frame[2 + byte] = (uint8_t)(value >> 8 * byte);
+    }
+}
+
+static double replay(replay_call call, ndz_replayed *answer, ndz_settings settings, const uint8_t *recording, uint32_t frames, int64_t *room, size_t numbers)
+{
+    double begun = now();
+    *answer = call(settings, recording, (size_t)NDZ_FRAME_BYTES * frames, room, numbers);
+    return now() - begun;
+}
+
+/* The same by a reading at a time, where the caller makes the ticks. */
+static double feed_frames(late_call call, ndz_replayed *answer, ndz_state state, const uint8_t *recording, uint32_t frames, int64_t *room, size_t numbers)
+{
+    double begun = now();
+    uint32_t newest = 32768, newest_counter = 0;
+    *answer = (ndz_replayed){.refusal = 0};
+    for (uint32_t i = 0; i < frames; i++) {
+        const uint8_t *frame = recording + (size_t)NDZ_FRAME_BYTES * i;
+        uint32_t counter = frame[0] | (uint32_t)frame[1] << 8;
+        uint32_t value = frame[2] | (uint32_t)frame[3] << 8 | (uint32_t)frame[4] << 16 | (uint32_t)frame[5] << 24;
+        if (i == 0)
+            newest_counter = counter;
+        uint32_t tick = newest + ((counter - newest_counter + 32768) & 65535) - 32768;
+        ndz_answer a = call(state, room, numbers, tick, (int32_t)value);
+        if (a.refusal) {
+            answer->refused++;
+            continue;
+        }
+        state = a.state;
+        answer->accepted++;
+        if (tick > newest) {
+            newest = tick;
+            newest_counter = counter;
+        }
+    }
+    answer->state = state;
+    return now() - begun;
+}
+
 /* What the check alone takes: a lookup past the last tick checks state and room and is then refused. */
 static double check_only(const ndz_state *state, const int64_t *room, size_t numbers, uint32_t turns)
 {
@@ -115,6 +172,39 @@ static void readings(ndz_settings settings, uint32_t count, int unchecked)
     same(&library, &plain, numbers);
     snprintf(what, sizeof what, "the same without the check");
     line(what, count, of_library - check, of_plain);
+}
+
+static void same_replayed(const ndz_replayed *a, const ndz_replayed *b, size_t numbers)
+{
+    if (a->refusal != b->refusal || a->place != b->place || a->accepted != b->accepted || a->refused != b->refused)
+        fail("the answers of a replay");
+    same(&a->state, &b->state, numbers);
+}
+
+static void recordings(ndz_settings settings, uint32_t frames)
+{
+    size_t numbers = NDZ_NUMBERS(NDZ_LATE, settings.size, settings.gaps);
+    uint8_t *recording = malloc((size_t)NDZ_FRAME_BYTES * frames + 1);
+    if (recording == NULL)
+        fail("no memory for a recording");
+    make_frames(recording, frames);
+    ndz_replayed library, plain, whole;
+    double of_library = replay(ndz_replay, &library, settings, recording, frames, library_room, numbers);
+    double of_plain = replay(plain_replay, &plain, settings, recording, frames, plain_room, numbers);
+    if (library.refusal || library.accepted + library.refused != frames || library.refused != (frames - (frames > 0)) / 1000)
+        fail("a replay");
+    same_replayed(&library, &plain, numbers);
+    char what[80];
+    snprintf(what, sizeof what, "replay of %" PRIu32 " frames, B = %" PRIu64 ", K = %" PRIu64, frames, settings.size, settings.gaps);
+    line(what, frames, of_library, of_plain);
+    whole = library;
+    plain_checks = 1;
+    of_library = feed_frames(ndz_late, &library, ndz_open(settings, library_room, numbers).state, recording, frames, library_room, numbers);
+    of_plain = feed_frames(plain_late, &plain, plain_open(settings, plain_room, numbers).state, recording, frames, plain_room, numbers);
+    same_replayed(&library, &plain, numbers);
+    same_replayed(&library, &whole, numbers);
+    line("the same by single readings", frames, of_library, of_plain);
+    free(recording);
 }
 
 static void files(uint32_t turns)
@@ -169,6 +259,7 @@ int main(int argc, char **argv)
         readings((ndz_settings){.kind = NDZ_IN_ORDER, .size = sizes[i]}, count / 10, 0);
     for (uint64_t base = 63; base <= 65; base++)
         readings((ndz_settings){.kind = NDZ_IN_ORDER, .size = base, .by = NDZ_BY_BASE}, count / 10, 0);
+    recordings((ndz_settings){.kind = NDZ_LATE, .size = NDZ_DEFAULT_STEPS, .gaps = 16}, count / 2);
     files(count / 100);
     return 0;
 }

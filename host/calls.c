@@ -9,22 +9,23 @@
 #include <string.h>
 
 enum { NUMBERS = 8192, BYTES = 65536, PLACES = BYTES / NDZ_RECORD_BYTES, LINE = 1024 };
+enum { FILE_BYTES = 655360, FILE_RECORDS = FILE_BYTES / NDZ_RECORD_BYTES, FILE_FRAMES = FILE_BYTES / NDZ_FRAME_BYTES };
 
 /* ---- what the script has made so far */
 
 static ndz_state state;
 static ndz_tally tally;
 static int64_t room[NUMBERS];
-static uint8_t file[BYTES], output[BYTES];
+static uint8_t file[FILE_BYTES], output[BYTES];
 static ndz_bucket row[PLACES];
 static size_t numbers_lent, bytes_lent;
 
 /* ---- the numbers of the command at hand */
 
-enum name { KIND, BASE, GAPS, USED, RUNS, READINGS, ACCEPTED, REFUSED, MERGES, LENT, PLACE, LENGTH, AT, FROM, TO, START, COUNT, LEAST, LARGEST, TICK, VALUE, FIRST, LAST, BAR, SIZE, BY, NAMES };
+enum name { KIND, BASE, GAPS, USED, RUNS, READINGS, ACCEPTED, REFUSED, MERGES, LENT, PLACE, LENGTH, AT, FROM, TO, START, COUNT, LEAST, LARGEST, TICK, VALUE, FIRST, LAST, BAR, SIZE, BY, COUNTER, NAMES };
 
 static const char *const names[NAMES] = {"kind", "base", "gaps", "used", "runs", "readings", "accepted", "refused", "merges", "numbers", "places",
-    "bytes", "at", "from", "to", "start", "count", "least", "largest", "tick", "value", "first", "last", "bar", "size", "by"};
+    "bytes", "at", "from", "to", "start", "count", "least", "largest", "tick", "value", "first", "last", "bar", "size", "by", "counter"};
 
 static uint64_t number[NAMES];
 
@@ -182,6 +183,23 @@ static void obey_load(void)
     take_back(file_part, file);
     answered(answer);
     ndz_take(&state, answer);
+    show_bytes(" file ", file, bytes_lent);
+    letter('\n');
+}
+
+static void obey_replay(void)
+{
+    const uint8_t *lent = lend_const(file_part, file, bytes_lent);
+    ndz_replayed answer = ndz_replay(settings(), lent, bytes_lent, lend_room(), numbers_lent);
+    take_back(file_part, file);
+    take_back(room_part, room);
+    refused(answer.refusal, answer.place);
+    show_state(answer.state);
+    unsigned_number(answer.accepted);
+    unsigned_number(answer.refused);
+    show_room();
+    if (answer.refusal == 0)
+        state = answer.state;
     show_bytes(" file ", file, bytes_lent);
     letter('\n');
 }
@@ -361,26 +379,34 @@ static void obey_slot(void)
 
 static void obey_file(void)
 {
-    bytes_lent = at_most(number[LENGTH], BYTES);
+    bytes_lent = at_most(number[LENGTH], FILE_BYTES);
 }
 
 static void obey_byte(void)
 {
-    if (number[AT] < BYTES)
+    if (number[AT] < FILE_BYTES)
         file[number[AT]] = (uint8_t)number[VALUE];
 }
 
 static void obey_record(void)
 {
-    if (number[AT] < PLACES)
+    if (number[AT] < FILE_RECORDS)
         for (size_t i = 0; i < NDZ_RECORD_BYTES; i++)
             file[NDZ_RECORD_BYTES * number[AT] + i] = (uint8_t)(number[START + i / 4] >> 8 * (i % 4));
 }
 
+static void obey_frame(void)
+{
+    if (number[AT] < FILE_FRAMES)
+        for (size_t i = 0; i < NDZ_FRAME_BYTES; i++)
+            file[NDZ_FRAME_BYTES * number[AT] + i] = (uint8_t)(i < 2 ? number[COUNTER] >> 8 * i : number[VALUE] >> 8 * (i - 2));
+}
+
 static void obey_copy(void)
 {
-    size_t from = at_most(number[FROM], PLACES + 1), to = at_most(number[TO], PLACES + 1), count = at_most(number[COUNT], PLACES + 1);
-    if (from + count <= PLACES && to + count <= PLACES)
+    const size_t most = FILE_RECORDS + 1;
+    size_t from = at_most(number[FROM], most), to = at_most(number[TO], most), count = at_most(number[COUNT], most);
+    if (from + count <= FILE_RECORDS && to + count <= FILE_RECORDS)
         memmove(file + NDZ_RECORD_BYTES * to, file + NDZ_RECORD_BYTES * from, NDZ_RECORD_BYTES * count);
 }
 
@@ -418,6 +444,8 @@ static const struct {
     {"row", obey_row},
     {"state", obey_state},
     {"record", obey_record},
+    {"frame", obey_frame},
+    {"replay", obey_replay},
     {"slot", obey_slot},
     {"file", obey_file},
     {"copy", obey_copy},

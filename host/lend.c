@@ -8,7 +8,7 @@
 #include <unistd.h>
 
 /* PAGE is a multiple of the page of any machine at hand. BESIDE bytes on the side of a part that is not against a page are looked at after a call. */
-enum { PAGE = 65536, WHOLE = 131072, BESIDE = 64, BESIDE_BYTE = 92 };
+enum { PAGE = 65536, WHOLE = 720896, BESIDE = 64, BESIDE_BYTE = 92 };
 
 /* The same memory twice: pages that can be written, and pages that cannot. `at` is where the lent bytes begin. */
 struct part {

@@ -5,7 +5,7 @@
  *   the NDZ_ names below (ndz_refusal_text has them in words); `place` is 0 but for NDZ_RECORD, where it is the index of the
  *   record. After a refusal nothing that was lent has changed, but for the count of refused readings in a tally. The
  *   conditions are tried in the order in which a call lists its refusals, and the first that holds is the one given. All
- *   this is proved of the functions themselves (crates/c_trace, c_look, c_lend), for any numbers and bytes.
+ *   this is proved of the functions themselves (crates/c_trace, c_look, c_lend, c_replay), for any numbers and bytes.
  *
  * What every call needs
  *   A pointer comes with the number of its elements: `numbers` counts numbers of 64 bits, not slots and not bytes. It must
@@ -24,7 +24,7 @@
  * Going on after an answer
  *   ndz_take(&state, ndz_next(state, ..)) goes on with an accepted answer's state and leaves the state where the call was
  *   refused; it returns the refusal. `state = ndz_load(..).state` without a look at the refusal loses the trace at hand: a
- *   refused open or load answers a state of zeros, which no call accepts.
+ *   refused open, load or replay answers a state of zeros, which no call accepts.
  */
 #ifndef NDEZULANGI_H
 #define NDEZULANGI_H
@@ -37,7 +37,7 @@ extern "C" {
 #endif
 
 #define NDZ_VERSION_MAJOR 0
-#define NDZ_VERSION_MINOR 4
+#define NDZ_VERSION_MINOR 5
 
 /* Kinds. Any other number than 0 is taken as late, and an accepted call hands it back as 1. */
 #define NDZ_IN_ORDER 0 /* the next reading takes the next tick, from 0 */
@@ -59,6 +59,7 @@ extern "C" {
 #define NDZ_MOST_BUCKETS 768 /* of any trace: C and K at their most */
 #define NDZ_SLOT 4           /* numbers of a slot */
 #define NDZ_RECORD_BYTES 16  /* bytes of a saved bucket */
+#define NDZ_FRAME_BYTES 6    /* bytes of a logger's record */
 
 /* How many numbers a trace needs: four for each of C + 1 slots in order, of C + K + 1 late; by steps C is 2B. For B, C and K
  * in their bounds a constant where they are: int64_t room[NDZ_NUMBERS_BASE(NDZ_IN_ORDER, 63, 0)]. */
@@ -80,8 +81,8 @@ extern "C" {
 #define NDZ_ABSENT 12
 #define NDZ_SHORT 13
 
-/* What a trace is opened or loaded with. `size` is B or C, as `by` says; K, the most unbroken runs of a late trace, is
- * `gaps`, which is ignored in order. */
+/* What a trace is opened, loaded or replayed with. `size` is B or C, as `by` says; K, the most unbroken runs of a late
+ * trace, is `gaps`, which is ignored in order. A replay is late, and does not look at `kind`. */
 typedef struct {
     uint64_t kind;
     uint64_t size;
@@ -121,6 +122,15 @@ typedef struct {
     uint64_t place;
     ndz_state state;
 } ndz_answer;
+
+/* A replayed trace, and how many records were accepted and how many refused. Refused: state and counts all zeros. */
+typedef struct {
+    uint32_t refusal;
+    uint64_t place;
+    ndz_state state;
+    uint64_t accepted;
+    uint64_t refused;
+} ndz_replayed;
 
 /* The step at a tick, and the least and largest reading of its bucket; every reading of the bucket is within `error` of
  * `level`. Zeros where refused. */
@@ -210,6 +220,19 @@ ndz_written ndz_save(ndz_state state, const int64_t *room, size_t numbers, uint8
  * Refuses: NDZ_STEPS, NDZ_GAPS, NDZ_ROOM, NDZ_LENGTH, NDZ_RECORD, NDZ_RUNS, NDZ_OVERFULL. */
 ndz_answer ndz_load(ndz_settings settings, const uint8_t *file, size_t bytes, int64_t *room, size_t numbers);
 
+/* Opens a late trace, whatever `kind` says, and replays a recording of the handheld logger into it: records of 6 bytes
+ * without a header, a counter of 16 bits, then a reading of 32 bits in two's complement, each low byte first. The first
+ * record takes the tick 32768. Each next one takes the newest tick plus the difference of its counter from the newest one's,
+ * which wraps and is taken as -32768 to 32767; the newest record is the one of the highest tick accepted so far. No tick is
+ * below 0. A record that is refused by NDZ_TICK, NDZ_TAKEN or NDZ_RUNS is counted and passed over: it changes nothing else,
+ * and is never the newest. The counter need not begin at 0: if each true tick differs from the newest accepted one by -32768
+ * to 32767, and the counters go with the true ticks modulo 65536, the trace and the counts are those of feeding ndz_late with
+ * the true ticks, shifted so that the first is 32768. A recording of no bytes makes an empty trace. No tally is touched.
+ * The trace goes on with ndz_late, by ticks of which the first record's is 32768, and saves and loads as any late trace.
+ * Where the call is refused nothing is written: go on with `state` only where `refusal` is 0.
+ * Refuses: NDZ_STEPS, NDZ_GAPS, NDZ_ROOM, NDZ_LENGTH (`bytes` is not a multiple of NDZ_FRAME_BYTES). */
+ndz_replayed ndz_replay(ndz_settings settings, const uint8_t *recording, size_t bytes, int64_t *room, size_t numbers);
+
 /* Goes on with the state of an accepted answer, and with the state at hand where it was refused. Returns the refusal. */
 static inline uint32_t ndz_take(ndz_state *state, ndz_answer answer)
 {
@@ -229,7 +252,7 @@ static inline const char *ndz_refusal_text(uint32_t refusal)
     case NDZ_UNSOUND: return "state and room are not a sound trace";
     case NDZ_KIND: return "the call is for the other kind of trace";
     case NDZ_TICK: return "a tick is above the last one, or no tick is left";
-    case NDZ_LENGTH: return "the saved bytes are not a multiple of 16";
+    case NDZ_LENGTH: return "the saved bytes are not a multiple of 16, or the recorded ones not of 6";
     case NDZ_RECORD: return "a saved record breaks a rule";
     case NDZ_RUNS: return "there would be more runs than allowed";
     case NDZ_OVERFULL: return "there are more saved records than the limit of steps";

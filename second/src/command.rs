@@ -4,7 +4,7 @@
 //! state at hand or in the tally, any other 0: so are `size` and `by`, which no state has. Where a field has fewer bits, the lowest of the number are its. A line that begins
 //! with `#` is a heading for what follows it, and is no command. Words and names have at most eight letters.
 //!
-//! A script has a state at hand, of six fields, a room of 8,192 numbers of which the first so many are lent, a file of 65,536 bytes of which the
+//! A script has a state at hand, of six fields, a room of 8,192 numbers of which the first so many are lent, a file of 655,360 bytes of which the
 //! first so many are lent, a row of 4,096 buckets, an output of 65,536 bytes and a tally, all 0 at first. Where a command names more of them than
 //! there is, all there is is meant.
 //!
@@ -20,6 +20,7 @@
 //! | `row` | `places` | so many buckets of the row are lent |
 //! | `save` | `bytes` | so many bytes of the output are lent |
 //! | `load` | `kind size gaps by` | loads the lent file with these settings, `size` and `by` as in `open` |
+//! | `replay` | `size gaps by` | opens a late trace, `size` and `by` as in `open`, and replays the lent file into it, a recording of the logger |
 //! | `level`, `error` | `start count least largest` | of that bucket |
 //! | `show` | | no call: the state at hand and every lent number |
 //! | `state` | `kind base gaps used runs readings` | makes these the state at hand |
@@ -31,6 +32,7 @@
 //! | `file` | `bytes` | so many bytes of the file are lent from now on |
 //! | `byte` | `at value` | the byte of the file at an index |
 //! | `record` | `at start count least largest` | the sixteen bytes of a record of the file |
+//! | `frame` | `at counter value` | the six bytes of a record of a recording; none where they pass the file's end |
 //! | `copy` | `from to count` | so many records of the file, which may overlap; none where either end passes the file's |
 //! | `take` | `bytes` | the first so many bytes of the output become the file, and are lent |
 //! | `blank` | `bytes value` | the first so many bytes of the output, and of the row's buckets as they lie in memory, are this |
@@ -39,11 +41,12 @@
 //! state leaves it at hand; a refused one leaves the state at hand as it was.
 //!
 //! The words from `open` to `show` write one line each, of the word and numbers one space apart. First what is answered, whole: a refusal, 0 where
-//! the call was accepted, and its place; then the six fields of a state (of a refused reading those that were given, of a refused open or load
-//! zeros), or a lookup's level, error, least and largest, or 1 with the index and the start of the bucket that is over, three zeros where none is,
-//! or the worst error, or how many buckets were written, each 0 where refused. Then what was lent: ` room`, a checksum of the lent numbers; of a
-//! told reading ` tally` and its three counts; of a row, a save or a load ` row`, ` output` or ` file` and the checksum of what was lent. `level` and
-//! `error` write the number alone; `show` the state at hand and every lent number.
+//! the call was accepted, and its place; then the six fields of a state (of a refused reading those that were given, of a refused open, load or
+//! replay zeros), behind those of a replay how many records were accepted and how many refused; or a lookup's level, error, least and largest, or 1
+//! with the index and the start of the bucket that is over, three zeros where none is, or the worst error, or how many buckets were written, each 0
+//! where refused. Then what was lent: ` room`, a checksum of the lent numbers; of a told reading ` tally` and its three counts; of a row, a save, a
+//! load or a replay ` row`, ` output` or ` file` and the checksum of what was lent. `level` and `error` write the number alone; `show` the state at
+//! hand and every lent number.
 //!
 //! A checksum is sixteen hex digits. It begins with how many numbers there are; for each number, by its 64 bits, exclusive or with it, then
 //! exclusive or with itself moved 13 up, then 7 down, then 17 up, then 11,400,714,819,323,198,485 is added, all modulo 2^64. Bytes go as one number
@@ -89,6 +92,7 @@ named! { Word:
     Row "row",
     Save "save",
     Load "load",
+    Replay "replay",
     Level "level",
     Error "error",
     Show "show",
@@ -101,6 +105,7 @@ named! { Word:
     File "file",
     Byte "byte",
     Record "record",
+    Frame "frame",
     Copy "copy",
     Take "take",
     Blank "blank",
@@ -133,6 +138,7 @@ named! { Name:
     Bar "bar",
     Size "size",
     By "by",
+    Counter "counter",
 }
 
 impl Word {

@@ -3,6 +3,8 @@
 use crate::calls::{Size, State, Tally, LAST_CALL_REFUSAL, RECORD, RECORD_BYTES, UNSOUND};
 use crate::clauses::{self, CLAUSES};
 use crate::command::{Command, Name, Word};
+use crate::recordings;
+use crate::rule::Kind;
 use crate::searches::{Search, SORTS};
 use crate::session::{kind_of, size_of, Answer, Session};
 use crate::sizes::{self, Call};
@@ -59,6 +61,10 @@ impl Counts {
                     self.count("file above 768 records");
                 }
             }
+            Word::Replay => {
+                self.settings(command);
+                self.replayed(session, number);
+            }
             Word::NextTold | Word::LateTold => self.told(&before, &session.tally),
             Word::Lookup => self.looked_up(answer),
             Word::Over => self.searched(session, command, answer),
@@ -68,7 +74,7 @@ impl Counts {
         if session.lent > MOST_NUMBERS {
             self.count("room above 3076 numbers");
         }
-        if matches!(command.word, Word::Open | Word::Load) && refusal.is_some() {
+        if opens(command.word) && refusal.is_some() {
             return;
         }
         let broken = clauses::broken(session.state, session.lent_numbers());
@@ -84,7 +90,7 @@ impl Counts {
 
     /// By what B and C are told apart.
     fn sized(&mut self, session: &Session, command: &Command, before: State, refusal: u32) {
-        let opens = matches!(command.word, Word::Open | Word::Load);
+        let opens = opens(command.word);
         let given = |name| command.given(name).filter(|_| opens);
         let call = Call {
             command,
@@ -92,7 +98,10 @@ impl Counts {
             after: session.state,
             refusal,
             lent: session.lent,
-            kind: given(Name::Kind).map_or(before.kind, kind_of),
+            kind: match command.word {
+                Word::Replay => Kind::Late,
+                _ => given(Name::Kind).map_or(before.kind, kind_of),
+            },
             gaps: given(Name::Gaps).unwrap_or(before.gaps),
             opened: self.opened,
         };
@@ -101,6 +110,12 @@ impl Counts {
         }
         if opens && refusal == 0 {
             self.opened = Some(size_of(command));
+        }
+    }
+
+    fn replayed(&mut self, session: &Session, refusal: u32) {
+        for (what, times) in recordings::met(session.state, refusal, session.lent_file()) {
+            *self.met.entry(what).or_default() += times;
         }
     }
 
@@ -191,6 +206,11 @@ impl Counts {
     }
 }
 
+/// Whether the call has settings and looks at no trace.
+fn opens(word: Word) -> bool {
+    matches!(word, Word::Open | Word::Load | Word::Replay)
+}
+
 fn answer_name(word: Word, number: u32) -> String {
     match number {
         0 => format!("{} accepted", word.text()),
@@ -199,7 +219,7 @@ fn answer_name(word: Word, number: u32) -> String {
 }
 
 /// The refusals that each call can give.
-pub const REFUSALS: [(Word, &[u32]); 13] = [
+pub const REFUSALS: [(Word, &[u32]); 14] = [
     (Word::Open, &[1, 2, 3]),
     (Word::Next, &[4, 5, 6]),
     (Word::Late, &[4, 5, 6, 9, 11]),
@@ -211,6 +231,7 @@ pub const REFUSALS: [(Word, &[u32]); 13] = [
     (Word::Row, &[4, 13]),
     (Word::Save, &[4, 13]),
     (Word::Load, &[1, 2, 3, 7, 8, 9, 10]),
+    (Word::Replay, &[1, 2, 3, 7]),
     (Word::Level, &[]),
     (Word::Error, &[]),
 ];
@@ -230,7 +251,7 @@ pub fn wanted() -> Met {
     for (sort, _) in SORTS {
         wanted.insert(sort.to_string(), OF_EACH_SORT);
     }
-    for word in [Word::Open, Word::Load] {
+    for word in [Word::Open, Word::Load, Word::Replay] {
         for name in [Name::Kind, Name::Size, Name::Gaps, Name::By] {
             wanted.insert(format!("{} wide {}", word.text(), name.text()), 100);
         }
@@ -256,6 +277,7 @@ pub fn wanted() -> Met {
         wanted.insert(name.to_string(), times);
     }
     wanted.extend(sizes::wanted());
+    wanted.extend(recordings::wanted());
     wanted.extend(crate::scripts::wanted_headings());
     wanted
 }

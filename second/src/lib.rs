@@ -1,4 +1,5 @@
-//! The second program of Ndezulangi as a library: the rule, the calls, scripts of calls and what they meet, the listing and the sample.
+//! The second program of Ndezulangi as a library: the rule, the calls, the logger's recordings, scripts of calls and what they meet, the listing and
+//! the sample.
 
 pub mod arrivals;
 pub mod calls;
@@ -8,9 +9,11 @@ pub mod command;
 pub mod counts;
 pub mod lines;
 pub mod listing;
+pub mod logger;
 pub mod long_lines;
 pub mod made;
 pub mod random;
+pub mod recordings;
 pub mod rule;
 pub mod sample;
 pub mod script;

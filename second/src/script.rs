@@ -2,6 +2,7 @@
 
 use crate::calls::{self, Size, MOST_BASE, MOST_STEPS, RECORD_BYTES, SLOT};
 use crate::command::{Command, Name, Word};
+use crate::logger::{Frame, FRAME_BYTES};
 use crate::made;
 use crate::random::Random;
 use crate::rule::{self, Bucket, Kind};
@@ -56,7 +57,7 @@ impl Script {
         self.random.below(of) == 0
     }
 
-    /// An open or a load by any four numbers; `by` is left out where it is 0. Answers whether it was accepted.
+    /// An open, a load or a replay by any four numbers; `by` is left out where it is 0. Answers whether it was accepted.
     pub fn named(&mut self, word: Word, kind: u64, size: u64, gaps: u64, by: u64) -> bool {
         let settings = [
             (Name::Kind, kind),
@@ -95,6 +96,11 @@ impl Script {
     /// The kind may be any number. Answers whether it was accepted.
     pub fn load_as(&mut self, kind: u64, size: Size, gaps: u64) -> bool {
         self.settings(Word::Load, kind, size, gaps)
+    }
+
+    /// The kind may be any number. Answers whether it was accepted.
+    pub fn replay_as(&mut self, kind: u64, size: Size, gaps: u64) -> bool {
+        self.settings(Word::Replay, kind, size, gaps)
     }
 
     pub fn next(&mut self, value: i32) {
@@ -226,6 +232,27 @@ impl Script {
             }
         }
         self.file_length(bytes.len());
+    }
+
+    /// Makes the file this recording, by changes of the records that differ.
+    pub fn recording(&mut self, frames: &[Frame]) {
+        for (at, frame) in frames.iter().enumerate() {
+            let there = &self.session.file[at * FRAME_BYTES..][..FRAME_BYTES];
+            if *there != frame.bytes() {
+                self.frame(at as u64, u64::from(frame.counter), wide(frame.value));
+            }
+        }
+        self.file_length(frames.len() * FRAME_BYTES);
+    }
+
+    /// Of the counter the lowest 16 bits, of the value the lowest 32.
+    pub fn frame(&mut self, at: u64, counter: u64, value: u64) {
+        let named = [
+            (Name::At, at),
+            (Name::Counter, counter),
+            (Name::Value, value),
+        ];
+        self.give(Word::Frame, &named);
     }
 
     pub fn file_length(&mut self, bytes: usize) {

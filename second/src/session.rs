@@ -1,13 +1,18 @@
 //! What a script has made so far, and how each command changes it and what it answers.
 
-use crate::calls::{self, Held, Record, Refusal, Size, State, Tally, RECORD_BYTES, SLOT};
+use crate::calls::{self, Held, Record, Refusal, Replayed, Size, State, Tally, RECORD_BYTES, SLOT};
 use crate::command::{Command, Name, Word};
+use crate::logger::{Frame, FRAME_BYTES};
 use crate::rule::{Bucket, Kind};
 
 /// Numbers of the whole room.
 pub const NUMBERS: usize = 8_192;
-/// Bytes of the whole file and of the whole output.
+/// Bytes of the whole output.
 pub const BYTES: usize = 65_536;
+/// Bytes of the whole file, and the saved records and the logger's records that it has room for.
+pub const FILE_BYTES: usize = 655_360;
+pub const FILE_RECORDS: usize = FILE_BYTES / RECORD_BYTES;
+pub const FILE_FRAMES: usize = FILE_BYTES / FRAME_BYTES;
 /// Buckets of the whole row.
 pub const PLACES: usize = BYTES / RECORD_BYTES;
 
@@ -21,6 +26,7 @@ const NO_RECORD: Record = Record {
 /// What a command answers.
 pub enum Answer {
     State(Result<State, Refusal>),
+    Replayed(Result<Replayed, Refusal>),
     Found(Result<Held, Refusal>),
     Over(Result<Option<(u64, u64)>, Refusal>),
     Worst(Result<i64, Refusal>),
@@ -34,6 +40,7 @@ impl Answer {
     pub fn refusal(&self) -> Option<Refusal> {
         match self {
             Answer::State(answer) => answer.err(),
+            Answer::Replayed(answer) => answer.err(),
             Answer::Found(answer) => answer.err(),
             Answer::Over(answer) => answer.err(),
             Answer::Worst(answer) => answer.err(),
@@ -65,7 +72,7 @@ impl Session {
             lent: 0,
             room: vec![0; NUMBERS],
             length: 0,
-            file: vec![0; BYTES],
+            file: vec![0; FILE_BYTES],
             row: vec![NO_RECORD; PLACES],
             output: vec![0; BYTES],
         }
@@ -116,6 +123,7 @@ impl Session {
             Word::Open | Word::Next | Word::Late | Word::NextTold | Word::LateTold | Word::Load => {
                 self.change(command)
             }
+            Word::Replay => self.replay(command),
             Word::Lookup => {
                 let tick = command.number(Name::Tick) as u32;
                 Answer::Found(calls::lookup(self.state, self.lent_numbers(), tick))
@@ -164,10 +172,25 @@ impl Session {
             _ => calls::late_tallied(self.state, room, tick, value, &mut self.tally),
         };
         if let Ok(after) = answer {
-            self.kind = after.kind as u64;
-            self.state = after;
+            self.go_on(after);
         }
         Answer::State(answer)
+    }
+
+    fn replay(&mut self, command: &Command) -> Answer {
+        let size = size_of(command);
+        let gaps = self.setting(command, Name::Gaps);
+        let room = &mut self.room[..self.lent];
+        let answer = calls::replay(size, gaps, &self.file[..self.length], room);
+        if let Ok(replayed) = answer {
+            self.go_on(replayed.state);
+        }
+        Answer::Replayed(answer)
+    }
+
+    fn go_on(&mut self, after: State) {
+        self.kind = after.kind as u64;
+        self.state = after;
     }
 
     /// A change to what calls are given.
@@ -190,25 +213,35 @@ impl Session {
                     *there = number(name) as i64;
                 }
             }
-            Word::File => self.length = at_most(number(Name::Bytes), BYTES),
+            Word::File => self.length = at_most(number(Name::Bytes), FILE_BYTES),
             Word::Byte => {
-                let at = at_most(number(Name::At), BYTES);
+                let at = at_most(number(Name::At), FILE_BYTES);
                 if let Some(there) = self.file.get_mut(at) {
                     *there = number(Name::Value) as u8;
                 }
             }
             Word::Record => {
-                let at = at_most(number(Name::At), PLACES);
+                let at = at_most(number(Name::At), FILE_RECORDS);
                 let fields = FIELDS.map(|name| (number(name) as u32).to_le_bytes());
                 let there = self.file.iter_mut().skip(at * RECORD_BYTES);
                 for (there, byte) in there.zip(fields.as_flattened()) {
                     *there = *byte;
                 }
             }
+            Word::Frame => {
+                let from = at_most(number(Name::At), FILE_FRAMES) * FRAME_BYTES;
+                let frame = Frame {
+                    counter: number(Name::Counter) as u16,
+                    value: number(Name::Value) as i32,
+                };
+                if let Some(there) = self.file.get_mut(from..from + FRAME_BYTES) {
+                    there.copy_from_slice(&frame.bytes());
+                }
+            }
             Word::Copy => {
                 let [from, to, count] = [Name::From, Name::To, Name::Count]
-                    .map(|name| at_most(number(name), PLACES + 1) * RECORD_BYTES);
-                if from.max(to) + count <= BYTES {
+                    .map(|name| at_most(number(name), FILE_RECORDS + 1) * RECORD_BYTES);
+                if from.max(to) + count <= FILE_BYTES {
                     self.file.copy_within(from..from + count, to);
                 }
             }
@@ -279,7 +312,7 @@ pub fn kind_of(number: u64) -> Kind {
     }
 }
 
-/// As an open or a load names it.
+/// As an open, a load or a replay names it.
 pub fn size_of(command: &Command) -> Size {
     let size = command.number(Name::Size);
     match command.number(Name::By) {

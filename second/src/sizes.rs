@@ -16,10 +16,10 @@ pub struct Call<'a> {
     pub after: State,
     pub refusal: u32,
     pub lent: usize,
-    /// The kind of the trace, and K; of an open or a load as it names them.
+    /// The kind of the trace, and K; of an open or a load as it names them, of a replay late and as it names it.
     pub kind: Kind,
     pub gaps: u64,
-    /// What the trace at hand was opened or loaded by.
+    /// What the trace at hand was opened, loaded or replayed by.
     pub opened: Option<Size>,
 }
 
@@ -110,6 +110,14 @@ fn kind_name(kind: Kind) -> &'static str {
     }
 }
 
+/// The kinds of trace that a word opens.
+fn kinds(word: Word) -> &'static [Kind] {
+    match word {
+        Word::Replay => &[Kind::Late],
+        _ => &KINDS,
+    }
+}
+
 fn of_size(word: Word, size: Size, kind: Kind) -> String {
     let kind = kind_name(kind);
     match size {
@@ -121,7 +129,7 @@ fn of_size(word: Word, size: Size, kind: Kind) -> String {
 /// The names of all sorts that the call is of.
 pub fn sorts(call: &Call) -> Vec<String> {
     match call.command.word {
-        Word::Open | Word::Load => call.of_settings(),
+        Word::Open | Word::Load | Word::Replay => call.of_settings(),
         Word::Next | Word::NextTold | Word::Late | Word::LateTold if call.refusal == 0 => {
             [call.of_state(), call.of_reading()].concat()
         }
@@ -234,9 +242,9 @@ const ONE_LESS_REFUSED: &str = "loaded by one less, overfull";
 /// How often each sort must be met.
 pub fn wanted() -> Met {
     let mut sorts = vec![];
-    for word in [Word::Open, Word::Load] {
+    for word in [Word::Open, Word::Load, Word::Replay] {
         let text = word.text();
-        for kind in KINDS {
+        for &kind in kinds(word) {
             sorts.extend(
                 GOOD.iter()
                     .chain(&BAD)

@@ -1,6 +1,6 @@
 //! The lines that an obeyed script writes.
 
-use crate::calls::{State, SLOT};
+use crate::calls::{Replayed, State, SLOT};
 use crate::command::{Command, Name, Word};
 use crate::counts::Counts;
 use crate::session::{Answer, Session, BYTES, PLACES};
@@ -73,6 +73,16 @@ fn answered(session: &Session, command: &Command, answer: &Answer, text: &mut Ve
             Word::Open | Word::Load => numbers(text, &[0; 6]),
             _ => numbers(text, &session.fields()),
         },
+        Answer::Replayed(Ok(replayed)) => {
+            let Replayed {
+                state,
+                accepted,
+                refused,
+            } = replayed;
+            numbers(text, &fields(state));
+            numbers(text, &[*accepted, *refused]);
+        }
+        Answer::Replayed(Err(_)) => numbers(text, &[0; 8]),
         Answer::Found(found) => {
             let shown = found.map_or([0; 4], |held| {
                 [held.level, held.error, held.least, held.largest]
@@ -130,7 +140,7 @@ fn lent(session: &Session, command: &Command, text: &mut Vec<u8>) {
             let bytes = command.number(Name::Bytes).min(BYTES as u64) as usize;
             sum(text, b" output ", of_bytes(&session.output[..bytes]));
         }
-        Word::Load => sum(text, b" file ", of_bytes(session.lent_file())),
+        Word::Load | Word::Replay => sum(text, b" file ", of_bytes(session.lent_file())),
         _ => {}
     }
 }

@@ -7,7 +7,7 @@ use mathlib.Core.Option.{Option, some, none}
 use native.Mathlib.Omega.{arith}
 use borrow.Author.Tests.{eq-eqb, eqb-true, le-leb, le-ltb, leb-false, leb-true, lt-ltb, ne-eqb}
 use lib.Dec.{leb, ltb}
-use lib.IntN.{ℤ}
+use lib.IntN.{ℤ, natAbs}
 use lib.ListN.{drop, length}
 use Rattle.rule.specs.declared.Bucket.{Bucket}
 use Rattle.rule.specs.declared.Kind.{Kind}
@@ -21,7 +21,7 @@ use Rattle.rule.specs.declared.State.{State}
 use Rattle.rule.specs.declared.Tally.{Tally}
 use Rattle.rule.specs.Answers.{number, place}
 use Rattle.rule.specs.Bytes.{recordsOf, saved}
-use Rattle.rule.specs.Calls.{Check, Verdict, accepted, admitted, baseOf, checked, counted, fileVerdict, found, foundOf, gapsKept, grown, isHeld, kept, late, lateVerdict, loadVerdict, loaded, lookupOutcome, measured, nextVerdict, opened, refused, sizeGood, traced, worstOutcome, writeVerdict, wrote}
+use Rattle.rule.specs.Calls.{Check, Verdict, accepted, admitted, baseOf, checked, counted, fileVerdict, found, foundOf, gapsKept, grown, isHeld, kept, late, lateOutcome, lateVerdict, loadVerdict, loaded, lookupOutcome, measured, nextVerdict, opened, refused, sizeGood, traced, worstOutcome, writeVerdict, wrote}
 use Rattle.rule.specs.Numbers.{most, mostBase, recordWidth, slotWidth, tallyMost, ticks, word}
 use Rattle.rule.specs.Files.{Finds, FirstBroken, meets}
 use Rattle.rule.specs.Room.{bounded, laid, signed, gapsGood, roomy, runsAllowed, sound, tableOf}
@@ -31,17 +31,20 @@ use Rattle.rule.proofs.Merging.{settle-runs}
 use Rattle.rule.proofs.Ruling.{Meets, facts-meets, first-is-first, meets-facts}
 use Rattle.rule.proofs.Signed.{signed-fits}
 use Rattle.rooms.proofs.Bounds.{in-bounds, size-base}
-use Rattle.rooms.proofs.Granting.{Granted, admits as grants, loaded-kept, opened-kept}
+use Rattle.rooms.proofs.Granting.{Granted, admits as grants, admitted-kept, loaded-kept, opened-kept}
 use Rattle.rooms.proofs.Laying.{drop-laid}
 use Rattle.rooms.specs.Steps.{Ready}
 use Rattle.rooms.proofs.Sounding.{sound-facts, used-needed}
 use Rattle.rooms.proofs.Taking.{taken-short}
 use Rattle.rooms.proofs.Leaving.{late-either, next-either, open-either}
+use Rattle.rooms.proofs.Outcomes.{accepted-settings, traced-refused}
 use Rattle.over.specs.Search.{firstOver, searchOutcome, sought, soughtOf}
+use Rattle.logger.specs.declared.Frame.{Frame}
+use Rattle.logger.specs.Replay.{Course, framesOf, goneOn, lateOpening, replayOutcome, replayVerdict}
+use Rattle.logger.proofs.Along.{replay-keeps, replay-refused}
 use Rattle.storage.proofs.Filing.{load-accepts, load-leaves, loads-needed}
-use Rattle.answered.proofs.Outcomes.{traced-refused}
 use Rattle.rule.proofs.Whole.{by-test}
-use Rattle.answered.specs.Answered.{Answered, Demand1, Lawful, Row, baseNamed, fileRows, firstOf, lateRows, lookupRows, mostSteps, namedBy, nextRows, openRows, outside, refusing, said, sizeOutside, slotsNeeded, saidFound, saidMeasured, saidSought, saidWritten, searchRows, worstRows, writeRows}
+use Rattle.answered.specs.Answered.{Answered, Demand1, Lawful, Row, baseNamed, fileRows, firstOf, lateRows, lookupRows, mostSteps, namedBy, nextRows, openRows, outside, recordingRows, refusing, said, sizeOutside, slotsNeeded, saidFound, saidMeasured, saidSought, saidWritten, searchRows, worstRows, writeRows}
 
 -- ---- a call's checks and the table's rows
 
@@ -134,6 +137,11 @@ module _ (g : Settings) (l : List ℤ) where
   unfolding said traced
   answered (refused r) rows e = record { exactly = e; untouched = λ q f. refl }
   answered (accepted t) rows e = record { exactly = e; untouched = λ q f. absurd (none-given q f) }
+
+  gone-on : (fs : List Frame) (v : Verdict Table) (rows : List Row) → said v ≡ firstOf rows → let t = traced g l v in let o = goneOn fs (t .0) (t .1) in Answered (said (o .0)) rows l (o .1)
+  unfolding said traced goneOn
+  gone-on fs (refused r) rows e = record { exactly = e; untouched = λ q f. refl }
+  gone-on fs (accepted t) rows e = record { exactly = e; untouched = λ q f. absurd (none-given q f) }
 
 written : {A : Type 0} (form : Table → List A) (out : List A) (v : Verdict Table) (rows : List Row) → said v ≡ firstOf rows
     → let o = wrote form out v in Answered (saidWritten (o .0)) rows out (o .1)
@@ -231,6 +239,12 @@ doubled : (k : Kind) (b gaps : ℕ) → kept (record { kind = k; size = Steps b;
 unfolding baseOf
 doubled k b gaps = refl
 
+same-replay : (b gaps : ℕ) (recording : List ℕ) (l : List ℤ) → replayOutcome (Steps b) gaps recording l ≡ replayOutcome (Base (2 * b)) gaps recording l
+unfolding baseOf replayVerdict
+same-replay b gaps recording l =
+    ap (λ (v : Verdict Table). let o = traced (kept (lateOpening (Steps b) gaps)) l v in goneOn (framesOf recording) (o .0) (o .1))
+    (admitted-kept (lateOpening (Steps b) gaps) (lateOpening (Base (2 * b)) gaps) (doubled Late b gaps) l _)
+
 -- ---- the record rules
 
 pub lawful : (k : Kind) (e : ℕ) (b : Bucket) → Meets k e b → Lawful k e b
@@ -258,6 +272,13 @@ module _ (g : Settings) (l : List ℤ) where
   unfolding traced
   accepted-past t h = drop-laid (needed g) t l h (needed g) (omega arith)
 
+  -- and the settings that it leaves
+  abbrev Still : State → List ℤ → Type 0
+  Still s m = (s .settings ≡ g) × (drop (slotWidth * needed g) m ≡ drop (slotWidth * needed g) l)
+
+  past-still : (v : Verdict Table) → Past v → {s : State} {m : List ℤ} → traced g l v ≡ (accepted s, m) → Still s m
+  past-still v p e = (accepted-settings g l v e, ap (λ (o : Verdict State × List ℤ). drop (slotWidth * needed g) (o .1)) (sym e) ∙ p)
+
 named-past : (g : Opening) (l m : List ℤ) → drop (slotWidth * needed (kept g)) m ≡ drop (slotWidth * needed (kept g)) l → drop (4 * slotsNeeded (namedBy g)) m ≡ drop (4 * slotsNeeded (namedBy g)) l
 named-past g l m e = subst (λ (n : ℕ). drop (slotWidth * n) m ≡ drop (slotWidth * n) l) (needed-is g) e
 
@@ -276,6 +297,26 @@ load-past g file l (accepted t, m) e =
     let left : m ≡ laid (needed (kept g)) (recordsOf file) l = ap (λ (o : Verdict State × List ℤ). o .1) (sym e ∙ load-leaves g file l (a .0) (a .1)) in
     ap (drop (slotWidth * needed (kept g))) left ∙ drop-laid (needed (kept g)) (recordsOf file) l (omega (arith, loads-needed (kept g) file (a .1))) (needed (kept g)) (omega arith)
 
+open-past : (g : Opening) (l : List ℤ) → Past (kept g) l (admitted g l (accepted []))
+open-past g l = open-either g l (Past (kept g) l) (refused-past (kept g) l) (λ _. accepted-past (kept g) l [] (omega arith))
+
+late-past : (s : State) (l : List ℤ) (tick : ℕ) (v : ℤ) → signed v ≡ true → Past (s .settings) l (lateVerdict s l tick v)
+late-past s l tick v range = late-either s l v (Past (s .settings) l) (refused-past (s .settings) l) tick (λ _ _ r small. taken-past s l _ _ tick v r range small)
+
+-- along a replay the settings stay, and with them the number of slots
+still : (g : Settings) (l : List ℤ) (s t : State) (m n : List ℤ) (tick : ℕ) (v : ℤ) → signed v ≡ true → lateOutcome s m tick v ≡ (accepted t, n) → Still g l s m → Still g l t n
+still g l s t m n tick v range e p =
+    let q : Still g m t n = subst (λ (h : Settings). Still h m t n) (p .0) (past-still (s .settings) m (lateVerdict s m tick v) (late-past s m tick v range) e) in
+    (q .0, q .1 ∙ p .1)
+
+replay-past : (size : Size) (gaps : ℕ) (recording : List ℕ) (l : List ℤ) (o : Verdict Course × List ℤ) → replayOutcome size gaps recording l ≡ o
+    → let g = kept (lateOpening size gaps) in drop (slotWidth * needed g) (o .1) ≡ drop (slotWidth * needed g) l
+replay-past size gaps recording l (refused r, m) e = ap (drop (slotWidth * needed (kept (lateOpening size gaps)))) (replay-refused size gaps recording l e)
+replay-past size gaps recording l (accepted c, m) e =
+    let g : Opening = lateOpening size gaps in
+    replay-keeps (λ s n ws. Still (kept g) l s n) (λ s t m n ws w. still (kept g) l s t m n (natAbs (w .tick)) (w .value)) size gaps recording l
+    (λ s n. past-still (kept g) l (admitted g l (accepted [])) (open-past g l)) e .1
+
 -- ---- every good C is taken
 
 gaps-fine : (k : Kind) (gaps : ℕ) → (late k ≡ true → (1 ≤ gaps) × (gaps ≤ 256)) → gapsGood k (gapsKept k gaps) ≡ true
@@ -292,7 +333,7 @@ any-base k c gaps l low high fine long =
     ap (λ (v : Verdict Table). said (traced (kept o) l v .0)) (grants o l granted (accepted []))
 
 pub demand1 : Demand1
-unfolding nextVerdict lateVerdict lookupOutcome writeVerdict ruled said firstOf late baseNamed
+unfolding nextVerdict lateVerdict lookupOutcome writeVerdict replayVerdict ruled said firstOf late baseNamed
 demand1 = record {
   opens = λ g l. answered (kept g) l (admitted g l (accepted [])) (openRows g l) (admits g l (accepted []) [] refl);
   nexts = λ s l v. answered (s .settings) l (nextVerdict s l v) (nextRows s l) (said-all _ _);
@@ -305,18 +346,21 @@ demand1 = record {
   saves = λ s l out. written saved out (writeVerdict s l (recordWidth * s .used) (length out)) (writeRows s l (length out) (recordWidth * s .used)) (writes s l (length out) (recordWidth * s .used));
   loads = λ g file l. answered (kept g) l (loadVerdict g file l) (openRows g l ++ fileRows g file)
       (loading g file l);
+  replays = λ size gaps recording l. gone-on (kept (lateOpening size gaps)) l (framesOf recording) (replayVerdict size gaps recording l) _ (admits (lateOpening size gaps) l _ (recordingRows recording) (said-all _ _));
   any-base = λ k c gaps l low high. any-base k c gaps l low (omega arith);
   names = λ b c. (refl, refl);
   one-law = λ z. sym (size-due z) ∙ ap not (size-base z) ∙ bounds mostBase (baseOf z) ∙ ap (outside 512) (base-is z);
   same-open = λ k b gaps l. opened-kept _ _ (doubled k b gaps) l;
   same-load = λ k b gaps file l. loaded-kept _ _ (doubled k b gaps) file l;
+  same-replay = same-replay;
   places = λ g file l i e. eighth g file l i (sym (loaded-said g file l) ∙ e);
   breaks = λ k file i inside broken. by-test (isWhole (firstFault k 0 0 (recordsOf file))) (λ h. absurd (false≢true (sym broken ∙ all-meet k file (firstFault k 0 0 (recordsOf file)) h (first-is-first k file) i inside))) (λ h. h);
   rules = λ k e b. (λ h. lawful k e b (meets-facts k e b h), λ h. facts-meets k e b (law-meets k e b h));
-  past-open = λ g l. named-past g l _ (open-either g l (Past (kept g) l) (refused-past (kept g) l) (λ _. accepted-past (kept g) l [] (omega arith)));
+  past-open = λ g l. named-past g l _ (open-past g l);
   past-next = λ s l v range. read-past s l _ (next-either s l v (Past (s .settings) l) (refused-past (s .settings) l) (λ _ r small. taken-past s l _ _ _ v r range small));
-  past-late = λ s l tick v range. read-past s l _ (late-either s l v (Past (s .settings) l) (refused-past (s .settings) l) tick (λ _ _ r small. taken-past s l _ _ tick v r range small));
+  past-late = λ s l tick v range. read-past s l _ (late-past s l tick v range);
   past-load = λ g file l. named-past g l _ (load-past g file l (loaded g file l) refl);
+  past-replay = λ size gaps recording l. named-past (lateOpening size gaps) l _ (replay-past size gaps recording l (replayOutcome size gaps recording l) refl);
   sizes-in-order = λ c gaps k. (omega arith, omega arith);
   sizes-late = λ c gaps k. (refl, refl);
   tally = told;

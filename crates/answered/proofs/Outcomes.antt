@@ -1,4 +1,4 @@
--- What an accepted outcome says, and that a refused one leaves the room as it stood.
+-- What an accepted next reading and a save that is not refused say.
 use Prim.Native.Nat.{ℕ, _*_}
 use mathlib.Core.Path.{_≡_, sym, ap, _∙_}
 use mathlib.Core.Bool.{false}
@@ -7,36 +7,17 @@ use native.Mathlib.Omega.{arith}
 use lib.IntN.{ℤ}
 use lib.ListN.{drop, length, take}
 use lib.Seq.{take-at}
-use Rattle.rule.specs.declared.Refusal.{Refusal}
-use Rattle.rule.specs.declared.Settings.{Settings}
 use Rattle.rule.specs.declared.State.{State}
-use Rattle.rule.specs.Calls.{Verdict, accepted, late, nextOutcome, refused, saveOutcome, stateOf, traced, wrote}
+use Rattle.rule.specs.Calls.{accepted, late, nextOutcome, saveOutcome, traced, wrote}
 use Rattle.rule.specs.Numbers.{recordWidth}
 use Rattle.rule.specs.declared.Written.{Written}
 use Rattle.rule.specs.Bytes.{saved}
 use Rattle.storage.proofs.RoundTrip.{length-saved}
-use Rattle.rule.specs.Room.{laid, tableOf}
-use Rattle.rule.specs.Table.{Table, needed}
+use Rattle.rule.specs.Room.{tableOf}
+use Rattle.rule.specs.Table.{Table}
 use Rattle.rooms.proofs.Writing.{write-either}
 use Rattle.rooms.proofs.Leaving.{next-either}
-
-module _ (g : Settings) (l : List ℤ) where
-  -- a refusal is not accepted, and leaves the room
-  pub not-accepted : {s : State} {m : List ℤ} (r : Refusal) → traced g l (refused r) ≡ (accepted s, m) → ⊥
-  unfolding traced
-  not-accepted {s} r e = let f : _≡_ {A = Verdict State} (refused r) (accepted s) = ap (λ (o : Verdict State × List ℤ). o .0) e in let z : _≡_ {A = ℕ} 0 1 = cc in omega arith
-
-  -- the state of an accepted call is that of the table it leaves, and the table lies in the room
-  pub accepted-is : {s : State} {m : List ℤ} (t : Table) → traced g l (accepted t) ≡ (accepted s, m) → (s ≡ stateOf g t) × (m ≡ laid (needed g) t l)
-  unfolding traced
-  accepted-is {s} t e =
-      let f : _≡_ {A = Verdict State} (accepted (stateOf g t)) (accepted s) = ap (λ (o : Verdict State × List ℤ). o .0) e in
-      ((let q : stateOf g t ≡ s = cc in sym q), sym (ap (λ (o : Verdict State × List ℤ). o .1) e))
-
-  pub traced-refused : (v : Verdict Table) (r : Refusal) (m : List ℤ) → traced g l v ≡ (refused r, m) → m ≡ l
-  unfolding traced
-  traced-refused (refused q) r m e = sym (ap (λ (o : Verdict State × List ℤ). o .1) e)
-  traced-refused (accepted t) r m e = absurd (let f : _≡_ {A = Verdict State} (accepted (stateOf g t)) (refused r) = ap (λ (o : Verdict State × List ℤ). o .0) e in let z : _≡_ {A = ℕ} 0 1 = cc in omega arith)
+use Rattle.rooms.proofs.Outcomes.{not-accepted}
 
 -- an accepted next reading is one of a trace in order
 pub next-in-order : (s : State) (l : List ℤ) (v : ℤ) {t : State} {m : List ℤ} → nextOutcome s l v ≡ (accepted t, m) → late (s .settings .kind) ≡ false

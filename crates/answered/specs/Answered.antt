@@ -28,6 +28,7 @@ use Rattle.rule.specs.Rules.{firstFault, placeOr, ruled, rules}
 use Rattle.rule.specs.Table.{accept, holding, nextTick, runs}
 use Rattle.over.specs.declared.Sought.{Sought}
 use Rattle.over.specs.Search.{searchOutcome}
+use Rattle.logger.specs.Replay.{replayOutcome}
 use Rattle.rule.specs.declared.Measured.{Measured}
 
 -- ---- the table, call by call, in the orders of document 01
@@ -88,6 +89,10 @@ fileRows g file =
     ∷ refusing 9 (late (g .kind) && ltb (g .gaps) (runs (recordsOf file)))
     ∷ refusing 10 (ltb (mostSteps (namedBy g) (runs (recordsOf file))) (length (recordsOf file)))
     ∷ []
+
+-- of a recording, of six bytes to a record
+abbrev pub recordingRows : List ℕ → List Row
+recordingRows recording = refusing 7 (not (eqb (length recording % 6) 0)) ∷ []
 
 abbrev pub nextRows : State → List ℤ → List Row
 nextRows s l =
@@ -181,15 +186,19 @@ pub record Demand1 : Type 0 where
   pub rows : (s : State) (l : List ℤ) (out : List Bucket) → let o = rowOutcome s l out in Answered (saidWritten (o .0)) (writeRows s l (length out) (s .used)) out (o .1)
   pub saves : (s : State) (l : List ℤ) (out : List ℕ) → let o = saveOutcome s l out in Answered (saidWritten (o .0)) (writeRows s l (length out) (16 * s .used)) out (o .1)
   pub loads : (g : Opening) (file : List ℕ) (l : List ℤ) → let o = loaded g file l in Answered (said (o .0)) (openRows g l ++ fileRows g file) l (o .1)
+  -- a replay opens a late trace; what its records are refused for is what late readings are, and only counted
+  pub replays : (size : Size) (gaps : ℕ) (recording : List ℕ) (l : List ℤ) → let o = replayOutcome size gaps recording l in
+      Answered (said (o .0)) (openRows (record { kind = Late; size = size; gaps = gaps }) l ++ recordingRows recording) l (o .1)
   -- a trace opens with any C from 1 to 512, where K is 1 to 256 late and the room is long enough; so with any B from 1 to 256, by `same-open`
   pub any-base : (k : Kind) (c gaps : ℕ) (l : List ℤ) → 1 ≤ c → c ≤ 512 → (late k ≡ true → (1 ≤ gaps) × (gaps ≤ 256)) → 4 * (c + cond (late k) gaps 0 + 1) ≤ length l
       → said (opened (record { kind = k; size = Base c; gaps = gaps }) l .0) ≡ none
   pub names : (b c : ℕ) → (baseNamed (Steps b) ≡ 2 * b) × (baseNamed (Base c) ≡ c)
-  -- B is C = 2B: refusal 1 is one law of the base limit, and open and load answer and leave the same, refused or not; every other call reads the state alone
+  -- B is C = 2B: refusal 1 is one law of the base limit, and open, load and replay answer and leave the same, refused or not; every other call reads the state alone
   pub one-law : (z : Size) → sizeOutside z ≡ outside 512 (baseNamed z)
   pub same-open : (k : Kind) (b gaps : ℕ) (l : List ℤ) → opened (record { kind = k; size = Steps b; gaps = gaps }) l ≡ opened (record { kind = k; size = Base (2 * b); gaps = gaps }) l
   pub same-load : (k : Kind) (b gaps : ℕ) (file : List ℕ) (l : List ℤ)
       → loaded (record { kind = k; size = Steps b; gaps = gaps }) file l ≡ loaded (record { kind = k; size = Base (2 * b); gaps = gaps }) file l
+  pub same-replay : (b gaps : ℕ) (recording : List ℕ) (l : List ℤ) → replayOutcome (Steps b) gaps recording l ≡ replayOutcome (Base (2 * b)) gaps recording l
   -- 8: the record at its place is the file's, it breaks a rule, and all before it meet them; and it is due wherever a record breaks one
   pub places : (g : Opening) (file : List ℕ) (l : List ℤ) (i : ℕ) → said (loaded g file l .0) ≡ some (8, i) → FirstBroken (g .kind) file i
   pub breaks : (k : Kind) (file : List ℕ) (i : ℕ) → i < length file / 16 → meets k file i ≡ false → ruled k (recordsOf file) ≡ false
@@ -200,6 +209,8 @@ pub record Demand1 : Type 0 where
   pub past-next : (s : State) (l : List ℤ) (v : ℤ) → signed v ≡ true → drop (4 * slotsNeeded (s .settings)) (nextOutcome s l v .1) ≡ drop (4 * slotsNeeded (s .settings)) l
   pub past-late : (s : State) (l : List ℤ) (tick : ℕ) (v : ℤ) → signed v ≡ true → drop (4 * slotsNeeded (s .settings)) (lateOutcome s l tick v .1) ≡ drop (4 * slotsNeeded (s .settings)) l
   pub past-load : (g : Opening) (file : List ℕ) (l : List ℤ) → drop (4 * slotsNeeded (namedBy g)) (loaded g file l .1) ≡ drop (4 * slotsNeeded (namedBy g)) l
+  pub past-replay : (size : Size) (gaps : ℕ) (recording : List ℕ) (l : List ℤ) → let n = 4 * slotsNeeded (record { kind = Late; base = baseNamed size; gaps = gaps }) in
+      drop n (replayOutcome size gaps recording l .1) ≡ drop n l
   -- so many slots are needed, and so many steps kept at most, for a base limit C: in order C + 1 and C, whatever K is named, and late C + K + 1 and C + k
   pub sizes-in-order : (c gaps k : ℕ) → let s : Settings = record { kind = InOrder; base = c; gaps = gaps } in (slotsNeeded s ≡ c + 1) × (mostSteps s k ≡ c)
   pub sizes-late : (c gaps k : ℕ) → let s : Settings = record { kind = Late; base = c; gaps = gaps } in (slotsNeeded s ≡ c + gaps + 1) × (mostSteps s k ≡ c + k)

@@ -1,7 +1,9 @@
-// Whether a reading is taken, and where it goes: the refusals of the two readings, in document 01's order. Nothing is written, and nothing is asked of a caller.
+// Whether a reading is taken, and where it goes: the refusals of the two readings, in document 01's order. Nothing is written. `next` and `late` ask nothing of a caller; `placed` goes on where soundness is known.
+ghost use mathlib.Core.Bool.{true};
 ghost use mathlib.Core.Path.{_≡_};
 ghost use lib.IntN.{ℤ};
-ghost use Rattle.rule.specs.Room.{slots};
+ghost use Rattle.rule.specs.Calls.{late};
+ghost use Rattle.rule.specs.Room.{slots, sound};
 ghost use Rattle.rule.specs.Table.{nextTick};
 ghost use Rattle.rooms.specs.Slots.{Filled};
 ghost use Rattle.arrival.specs.Arrivals.{lateArrival, nextArrival};
@@ -55,7 +57,27 @@ pub fn next(s: State, room: &[i64]) -> Arrival
     }
 }
 
-// A reading at its tick, in any order, of a late trace. Its value plays no part.
+// A reading at its tick of a late trace that is known to be sound. Its value plays no part.
+pub fn placed(s: State, room: &[i64], tick: u32) -> Arrival
+    requires { ⌜ (sound s (now room) ≡ true) × (late (s .settings .kind) ≡ true) ⌝ }
+    ensures { λ r. ⌜ ((v : ℤ) → r ≡ lateArrival s (now (room .entry)) tick v) ⌝ }
+{
+    if TICKS <= tick as usize {
+        return Arrival::Refused(Refusal::Tick);
+    }
+    let at = find(room, s.used, tick);
+    if held(room, s.used, at, tick) {
+        return Arrival::Refused(Refusal::Taken);
+    }
+    let runs = s.runs + 1 - joins(room, s.used, at, tick);
+    let settings = s.settings;
+    if settings.gaps < runs {
+        return Arrival::Refused(Refusal::Runs);
+    }
+    Arrival::Goes { at, runs, tick }
+}
+
+// A reading at its tick, in any order, of a late trace.
 pub fn late(s: State, room: &[i64], tick: u32) -> Arrival
     ensures { λ r. ⌜ ((v : ℤ) → r ≡ lateArrival s (now (room .entry)) tick v) ⌝ }
 {
@@ -67,16 +89,5 @@ pub fn late(s: State, room: &[i64], tick: u32) -> Arrival
     if !is_late(kind) {
         return Arrival::Refused(Refusal::Kind);
     }
-    if TICKS <= tick as usize {
-        return Arrival::Refused(Refusal::Tick);
-    }
-    let at = find(room, s.used, tick);
-    if held(room, s.used, at, tick) {
-        return Arrival::Refused(Refusal::Taken);
-    }
-    let runs = s.runs + 1 - joins(room, s.used, at, tick);
-    if settings.gaps < runs {
-        return Arrival::Refused(Refusal::Runs);
-    }
-    Arrival::Goes { at, runs, tick }
+    placed(s, room, tick)
 }

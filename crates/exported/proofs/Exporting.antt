@@ -49,7 +49,10 @@ use Rattle.fields.specs.declared.Fields.{Fields}
 use Rattle.fields.specs.declared.Named.{Named}
 use Rattle.plain.specs.declared.Reply.{Reply}
 use Rattle.fields.specs.States.{fieldsOf, kindOf, none, numberOf, openingOf, sizeOf, stateFrom}
-use Rattle.plain.specs.Plain.{erring, lookupReply, pointing, replied, replying, showing, telling, told, worstReply}
+use Rattle.plain.specs.declared.Recount.{Recount}
+use Rattle.plain.specs.Plain.{erring, lookupReply, pointing, recounting, replied, replying, showing, telling, told, worstReply}
+use Rattle.logger.specs.Replay.{Course, replayOutcome}
+use Rattle.replay.specs.Answers as replay
 use Rattle.fields.proofs.SameState.{same-state}
 use Rattle.answered.specs.Answered.{Answered, Row, baseNamed, fileRows, firstOf, lateRows, lookupRows, nextRows, openRows, said, saidFound, saidMeasured, saidSought, saidWritten, searchRows, worstRows, writeRows}
 use Rattle.promises.specs.Demands.{Upheld}
@@ -62,16 +65,16 @@ use Rattle.answered.proofs.Outcomes.{next-in-order}
 -- ---- demand 1
 
 -- refusal and place, zeros where nothing is said
-abbrev saying : Option (ℕ × ℕ) → ℕ × ℕ
+abbrev pub saying : Option (ℕ × ℕ) → ℕ × ℕ
 saying Option.none = (0, 0)
 saying (some r) = r
 
-due : (rows : List Row) → firstDue rows ≡ saying (firstOf rows)
+pub due : (rows : List Row) → firstDue rows ≡ saying (firstOf rows)
 unfolding firstDue firstOf
 due [] = refl
 due (r ∷ rs) = by-test (r .due) (λ h. rw h) (λ h. rw h (due rs))
 
-numbered : (r : Refusal) → 1 ≤ number r
+pub numbered : (r : Refusal) → 1 ≤ number r
 numbered Steps = omega arith
 numbered Gaps = omega arith
 numbered Room = omega arith
@@ -201,11 +204,11 @@ exported-search = record {
 
 module _ (back : Fields) where
   -- refusal 0: the call was accepted, and the reply's state is the call's
-  record Accepts (o : Verdict State × List ℤ) (r : Reply) (m : List ℤ) : Type 0 where
-    outcome : o ≡ (accepted (stateFrom (r .state)), m)
-    plain : fieldsOf (stateFrom (r .state)) ≡ r .state
+  pub record Accepts (o : Verdict State × List ℤ) (r : Reply) (m : List ℤ) : Type 0 where
+    pub outcome : o ≡ (accepted (stateFrom (r .state)), m)
+    pub plain : fieldsOf (stateFrom (r .state)) ≡ r .state
 
-  accepts : (o : Verdict State × List ℤ) {r : Reply} {m : List ℤ} → replied back (answered o) ≡ (r, m) → r .refusal ≡ 0 → Accepts o r m
+  pub accepts : (o : Verdict State × List ℤ) {r : Reply} {m : List ℤ} → replied back (answered o) ≡ (r, m) → r .refusal ≡ 0 → Accepts o r m
   unfolding replying answer
   accepts (refused q, l) e z = absurd (omega (arith, numbered q, ap (λ (x : Reply × List ℤ). x .0 .refusal) e))
   accepts (accepted s, l) e z = record {
@@ -229,6 +232,12 @@ writes : (o : Written × List ℕ) {c : Counted} {written : List ℕ} → told o
 unfolding telling
 writes (Written.Refused q, l) e z = absurd (omega (arith, numbered q, ap (λ (x : Counted × List ℕ). x .0 .refusal) e))
 writes (Written.Buckets n, l) e z = ap (λ (x : Counted × List ℕ). (Written.Buckets (x .0 .buckets), x .1)) e
+
+-- and of one that counts records
+recount-refuses : (o : Verdict Course × List ℤ) {r : Recount} {m : List ℤ} → _≡_ {A = Recount × List ℤ} (recounting (replay.answer (o .0)), o .1) (r, m) → r .refusal ≢ 0 → (why : Refusal) × (o ≡ (refused why, m))
+unfolding recounting replay.answer
+recount-refuses (refused q, l) e n = (q, ap (λ (x : Recount × List ℤ). (refused q, x .1)) e)
+recount-refuses (accepted c, l) e n = absurd (n (sym (ap (λ (x : Recount × List ℤ). x .0 .refusal) e)))
 
 -- ---- what the exported functions reach
 
@@ -257,6 +266,8 @@ module _ {named : Named} where
       (Reached.open-refused (openingOf other) (reaches c .0) (refuses none (opened (openingOf other) l) e n .outcome), reaches c .1)
   reaches (Called.load-refused {l = l} other file c e n) =
       (Reached.load-refused (openingOf other) file (reaches c .0) (refuses none (loaded (openingOf other) file l) e n .outcome), reaches c .1)
+  reaches (Called.replay-refused {l = l} other recording c e n) =
+      (Reached.replay-refused (openingOf other .size) (other .gaps) recording (reaches c .0) (recount-refuses (replayOutcome (openingOf other .size) (other .gaps) recording l) e n .1), reaches c .1)
   reaches (Called.loads {f = f} {l = l} {c = q} {written = written} out room other same c saves z e y) =
       let a = accepts none (loaded (openingOf other) (take (recordWidth * q .buckets) written) room) e y in
       (Reached.loads out room (openingOf other) same (reaches c .0) (writes (saveOutcome (stateFrom f) l out) saves z) (a .outcome), a .plain)

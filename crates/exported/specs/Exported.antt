@@ -28,11 +28,12 @@ use Rattle.plain.specs.declared.Counted.{Counted}
 use Rattle.fields.specs.declared.Fields.{Fields}
 use Rattle.fields.specs.declared.Named.{Named}
 use Rattle.plain.specs.declared.Hit.{Hit}
+use Rattle.plain.specs.declared.Recount.{Recount}
 use Rattle.plain.specs.declared.Reply.{Reply}
 use Rattle.plain.specs.declared.Shown.{Shown}
 use Rattle.plain.specs.declared.WorstError.{WorstError}
 use Rattle.fields.specs.States.{fieldsOf, kindOf, none, numberOf, openingOf, stateFrom}
-use Rattle.plain.specs.Plain.{lateReply, lateTally, loadReply, lookupReply, nextReply, nextTally, openReply, pointing, rowReply, saveReply, searchReply, worstReply}
+use Rattle.plain.specs.Plain.{lateReply, lateTally, loadReply, lookupReply, nextReply, nextTally, openReply, pointing, replayReply, rowReply, saveReply, searchReply, worstReply}
 use Rattle.answered.specs.Answered.{Row, fileRows, lateRows, lookupRows, namedBy, nextRows, openRows, searchRows, slotsNeeded, worstRows, writeRows}
 use Rattle.promises.specs.Demands.{Upheld}
 use Rattle.promises.specs.Reached.{SameSettings}
@@ -136,9 +137,10 @@ pub data Called (named : Named) : List Reading → Fields → List ℤ → Type 
   -- a refused reading: the caller goes on with the state that it handed back
   next-refused : {rs : List Reading} {f : Fields} {l m : List ℤ} {r : Reply} (v : ℤ) → Called named rs f l → nextReply f l v ≡ (r, m) → r .refusal ≢ 0 → Called named rs (r .state) m
   late-refused : {rs : List Reading} {f : Fields} {l m : List ℤ} {r : Reply} (tick : ℕ) (v : ℤ) → Called named rs f l → lateReply f l tick v ≡ (r, m) → r .refusal ≢ 0 → Called named rs (r .state) m
-  -- a refused open or load, by any settings and bytes, lent the room that holds the trace: the caller goes on with the state of before
+  -- a refused open, load or replay, by any settings and bytes, lent the room that holds the trace: the caller goes on with the state of before
   open-refused : {rs : List Reading} {f : Fields} {l m : List ℤ} {r : Reply} (other : Named) → Called named rs f l → openReply other l ≡ (r, m) → r .refusal ≢ 0 → Called named rs f m
   load-refused : {rs : List Reading} {f : Fields} {l m : List ℤ} {r : Reply} (other : Named) (file : List ℕ) → Called named rs f l → loadReply other file l ≡ (r, m) → r .refusal ≢ 0 → Called named rs f m
+  replay-refused : {rs : List Reading} {f : Fields} {l m : List ℤ} {r : Recount} (other : Named) (recording : List ℕ) → Called named rs f l → replayReply other recording l ≡ (r, m) → r .refusal ≢ 0 → Called named rs f m
   -- saved into any output, and the bytes that were written loaded into any room by the same settings: late any kind but 0 is the same, the base limit by B or by C, and in order any gaps
   loads : {rs : List Reading} {f : Fields} {l m : List ℤ} {c : Counted} {written : List ℕ} {r : Reply} (out : List ℕ) (room : List ℤ) (other : Named)
       → SameSettings (openingOf other) (openingOf named) → Called named rs f l → saveReply f l out ≡ (c, written) → c .refusal ≡ 0

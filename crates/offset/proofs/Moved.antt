@@ -2,12 +2,12 @@
 use Prim.Native.Nat.{ℕ, zero, suc}
 use mathlib.Core.Path.{_≡_, refl, ap, _∙_}
 use mathlib.Core.Bool.{cond}
-use mathlib.Core.List.{[], _∷_}
+use mathlib.Core.List.{List, [], _∷_, map}
 use mathlib.Core.Option.{Option, some, none}
 use lib.Dec.{leb, ltb}
 use lib.IntN.{ℤ, _+ℤ_}
 use lib.ListN.{length}
-use lib.Signed.{leZ}
+use lib.Signed.{leZ, ltZ}
 use Rattle.rule.specs.declared.Bucket.{Bucket}
 use Rattle.rule.specs.declared.Kind.{Kind}
 use Rattle.rule.specs.declared.Kind.the-variants.{InOrder, Late}
@@ -16,7 +16,8 @@ use Rattle.rule.specs.Bucket.{distance, end, error, larger, lesser, level, midd
 use Rattle.rule.specs.Rules.{broken, equal, firstFault, follows, rules}
 use Rattle.rule.specs.Table.{Table, Choice, nothing, pair, accept, cheapest, choice, holding, holds, insert, lastEnd, limit, merge, mergeAt, mergeOf, readings, runs, runsAfter, settle, settleIn, single, worst}
 use Rattle.over.specs.Search.{firstOver, over, touches}
-use Rattle.offset.specs.Offset.{moved, movedAll}
+use Rattle.logger.specs.Replay.{Landed, higher, newest, tickAfter, tickFrom}
+use Rattle.offset.specs.Offset.{moved, movedAll, movedLanded}
 use Rattle.rule.proofs.Whole.{whole, by-test, distance-is, middle-down, middle-up, one-side, sum}
 
 module _ (d : ℤ) where
@@ -163,3 +164,27 @@ module _ (d : ℤ) where
   unfolding firstFault
   first-fault-moved k e i [] = refl
   first-fault-moved k e i (b ∷ t) = rw (broken-moved k e b, first-fault-moved k (end b) (suc i) t)
+
+  -- ---- the tick of a record
+
+  unfoldable movedNewest : Option Landed → Option Landed
+  movedNewest none = none
+  movedNewest (some w) = some (movedLanded d w)
+
+  higher-moved : (a : Landed) (o : Option Landed) → higher (movedLanded d a) (movedNewest o) ≡ movedLanded d (higher a o)
+  unfolding higher movedNewest
+  higher-moved a none = refl
+  higher-moved a (some b) = by-test (ltZ (b .tick) (a .tick)) (λ h. rw h) (λ h. rw h)
+
+  newest-moved : (ws : List Landed) → newest (map (movedLanded d) ws) ≡ movedNewest (newest ws)
+  unfolding newest movedNewest
+  newest-moved [] = refl
+  newest-moved (a ∷ ws) = rw (newest-moved ws, higher-moved a (newest ws))
+
+  tick-from-moved : (o : Option Landed) (n : ℕ) → tickFrom (movedNewest o) n ≡ tickFrom o n
+  unfolding tickFrom movedNewest
+  tick-from-moved none n = refl
+  tick-from-moved (some w) n = refl
+
+  pub tick-moved : (ws : List Landed) (n : ℕ) → tickAfter (map (movedLanded d) ws) n ≡ tickAfter ws n
+  tick-moved ws n = rw (newest-moved ws) (tick-from-moved (newest ws) n)

@@ -1,13 +1,13 @@
 -- Two callers whose readings differ by one number get the same answers, moved, and what they have stays alike.
-use Prim.Native.Nat.{ℕ, zero, suc, _*_}
+use Prim.Native.Nat.{ℕ, zero, suc, _*_, _%_}
 use mathlib.Core.Path.{_≡_, refl, sym, ap, subst, _∙_}
 use mathlib.Core.Bool.{true}
-use mathlib.Core.List.{List, [], _∷_, _++_, map, List·Memᴰ, List·Memᴰ·head, List·Memᴰ·tail}
+use mathlib.Core.List.{List, [], _∷_, _++_, map, Memᴰ·append-left, Memᴰ·append-right, List·Memᴰ·head, List·Memᴰ·tail}
 use mathlib.Core.Option.{Option, some, none}
 use native.Mathlib.Omega.{arith}
-use lib.Dec.{leb}
-use lib.IntN.{ℤ, pos, _+ℤ_}
-use lib.ListN.{length, drop, getD}
+use lib.Dec.{eqb, leb}
+use lib.IntN.{ℤ, pos, natAbs, _+ℤ_}
+use lib.ListN.{length, drop, getD, length-map}
 use lib.Seq.{take-at}
 use lib.Signed.{leZ}
 use Rattle.rule.specs.declared.Bucket.{Bucket}
@@ -15,6 +15,7 @@ use Rattle.rule.specs.declared.Found.{Found}
 use Rattle.rule.specs.declared.Refusal.{Refusal}
 use Rattle.rule.specs.declared.Opening.{Opening}
 use Rattle.rule.specs.declared.Settings.{Settings}
+use Rattle.rule.specs.declared.Size.{Size}
 use Rattle.rule.specs.declared.State.{State}
 use Rattle.rule.specs.declared.Tally.{Tally}
 use Rattle.rule.specs.declared.Written.{Written}
@@ -37,22 +38,19 @@ use Rattle.rooms.proofs.Laying.{slots-laid}
 use Rattle.storage.specs.Bytes.{AllBytes}
 use Rattle.storage.proofs.RoundTrips.{load-sound}
 use Rattle.rooms.specs.Left.{LeavesSound, LeftBy}
-use Rattle.rooms.proofs.Leaving.{late-leaves, next-leaves, open-leaves}
+use Rattle.rooms.proofs.Granting.{past-admission}
+use Rattle.rooms.proofs.Leaving.{Leaves, late-leaves, next-leaves, open-leaves, refused-leaves}
 use Rattle.over.specs.Search.{searchOutcome}
+use Rattle.logger.specs.declared.Frame.{Frame}
+use Rattle.logger.specs.Replay as logger
+use Rattle.logger.specs.Replay.{Course, Landed, fedAt, framesOf, goneOn, landing, lateOpening, replayOutcome, replayVerdict, replayed}
 use Rattle.offset.specs.Caller as caller
-use Rattle.offset.specs.Caller.{Answer, Call, Caller, after, answer, answers, begun, fed, fileAt, idle, kept, left, part}
-use Rattle.offset.specs.Offset.{AllHigher, Alike, FileMoved, FilesMoved, Higher, Offset, each, higher, lates-too, loads-too, lookups-too, movedAll, movedAnswer, movedFound, nexts-too, none as no-more, opens-too, readingsIn, rows-too, saves-too, searches-too, worsts-too}
-use Rattle.offset.proofs.Moved.{accept-moved, error-moved, first-fault-moved, first-over-moved, holding-moved, insert-moved, last-end-moved, length-moved, level-moved, movedHeld, readings-moved, runs-moved, worst-moved}
+use Rattle.offset.specs.Caller.{Answer, Call, Caller, after, answer, answers, begun, fed, fileAt, idle, kept, left, part, played, recount}
+use Rattle.offset.specs.Offset.{AllFit, AllHigher, Alike, FileMoved, FilesMoved, Higher, Offset, RecordingMoved, each, higher, landedIn, lates-too, loads-too, lookups-too, movedAll, movedAnswer, movedFound, movedFrame, movedLanded, nexts-too, none as no-more, opens-too, readingsIn, readingsOf, replays-too, rows-too, saves-too, searches-too, worsts-too}
+use Rattle.offset.proofs.Moved.{accept-moved, error-moved, first-fault-moved, first-over-moved, holding-moved, insert-moved, last-end-moved, length-moved, level-moved, movedHeld, readings-moved, runs-moved, tick-moved, worst-moved}
+use Rattle.offset.proofs.Raised.{raised-bytes, recording-raised, word-bytes}
 
 -- what is saved is bytes
-word-bytes : (n : ℕ) (rest : List ℕ) → AllBytes rest → AllBytes (bytes n ++ rest)
-unfolding bytes
-word-bytes n rest h zero = omega arith
-word-bytes n rest h (suc zero) = omega arith
-word-bytes n rest h (suc (suc zero)) = omega arith
-word-bytes n rest h (suc (suc (suc zero))) = omega arith
-word-bytes n rest h (suc (suc (suc (suc i)))) = h i
-
 saved-bytes : (t : Table) → AllBytes (saved t)
 unfolding saved savedRecord bytes
 saved-bytes [] i = omega arith
@@ -70,6 +68,14 @@ load-left g f l known (accepted t) e = load-sound g f l t known e
 
 load-leaves : (g : Opening) (f : List ℕ) (l : List ℤ) → AllBytes f → LeavesSound (loaded g f l)
 load-leaves g f l known = load-left g f l known (loaded g f l .0) refl
+
+-- so does the opening of a replay
+replay-leaves : (size : Size) (gaps : ℕ) (r : List ℕ) (l : List ℤ) → let k = keptAs (lateOpening size gaps) in LeavesSound (traced k l (replayVerdict size gaps r l))
+unfolding replayVerdict checked
+replay-leaves size gaps r l =
+    let g : Opening = lateOpening size gaps in
+    let no = refused-leaves (keptAs g) l in
+    by-test (eqb (length r % 6) 0) (λ h. rw h (open-leaves g l)) (λ h. rw h (past-admission g l (refused Refusal.Length) (Leaves (keptAs g) l) no (λ _. no Refusal.Length)))
 
 -- what is written of a table is all that a file has
 written-are : (t : Table) (out : List ℕ) → part 16 (Written.Buckets (length t)) (saved t ++ drop (length (saved t)) out) ≡ saved t
@@ -196,6 +202,80 @@ module _ (d : ℤ) where
         buckets = λ _. tables-moved g t l m;
       }
 
+  -- ---- the course of a replay
+
+  -- the second course, which has the first one's state and counts: the same records are accepted, at the same ticks
+  abbrev beside : Course → List ℤ → Course
+  beside c m = record { state = c .state; room = m; landed = map (movedLanded d) (c .landed); refused = c .refused }
+
+  record Runs (c e : Course) : Type 0 where
+    same : e ≡ beside c (e .room)
+    twin : Twin (c .state) (c .room) (e .room)
+
+  module _ (c : Course) (m : List ℤ) (a : Twin (c .state) (c .room) m) where
+    after-runs : (w : Landed) (v : Verdict Table) → let g = c .state .settings in LeavesSound (traced g (c .room) v) → LeavesSound (traced g m (movedVerdict v))
+        → let o = traced g (c .room) v in let q = traced g m (movedVerdict v) in Runs (logger.after c w (o .0) (o .1)) (logger.after (beside c m) (movedLanded d w) (q .0) (q .1))
+    unfolding traced movedVerdict LeftBy logger.after
+    after-runs w (refused r) p q = record { same = refl; twin = a }
+    after-runs w (accepted t) p q =
+        let g = c .state .settings in
+        let n = laid (needed g) (movedAll d t) m in
+        record { same = ap (λ (s : State). record { state = s; room = n; landed = map (movedLanded d) (w ∷ c .landed); refused = c .refused }) (state-moved g t); twin = laid-twin g t (c .room) m p q }
+
+    -- one record: a late reading at its tick
+    fed-runs : (f : Frame) → signed (f .value) ≡ true → signed (f .value +ℤ d) ≡ true → Runs (fedAt c (landing c f)) (fedAt (beside c m) (landing (beside c m) (movedFrame d f)))
+    fed-runs f fits fits-too =
+        let s = c .state in
+        let v = f .value in
+        let w : Landed = landing c f in
+        let tick = natAbs (w .tick) in
+        rw (tick-moved d (c .landed) (f .counter))
+        (subst (λ (x : Verdict Table). LeavesSound (traced (s .settings) m x) → let q = traced (s .settings) m x in Runs (fedAt c w) (logger.after (beside c m) (movedLanded d w) (q .0) (q .1)))
+        (sym (late-moved s (c .room) m a tick v)) (after-runs w _ (late-leaves s (c .room) tick v (signed-fits v fits))) (late-leaves s m tick (v +ℤ d) (signed-fits (v +ℤ d) fits-too)))
+
+  all-runs : (fs : List Frame) (c : Course) (m : List ℤ) → Twin (c .state) (c .room) m → AllFit d (map (λ (f : Frame). f .value) fs) → Runs (replayed c fs) (replayed (beside c m) (map (movedFrame d) fs))
+  unfolding replayed
+  all-runs [] c m a h = record { same = refl; twin = a }
+  all-runs (f ∷ fs) c m a h =
+      let p = h (f .value) (List·Memᴰ·head refl) in
+      let b = fed-runs c m a f (p .0) (p .1) in
+      let k : Course = fedAt c (landing c f) in
+      let e : Course = fedAt (beside c m) (landing (beside c m) (movedFrame d f)) in
+      subst (λ (x : Course). Runs (replayed k fs) (replayed x (map (movedFrame d) fs))) (sym (b .same)) (all-runs fs k (e .room) (b .twin) (λ v i. h v (List·Memᴰ·tail i)))
+
+  replay-verdict-moved : (size : Size) (gaps : ℕ) (r q : List ℕ) (l m : List ℤ) → length q ≡ length r → length m ≡ length l → replayVerdict size gaps q m ≡ movedVerdict (replayVerdict size gaps r l)
+  unfolding replayVerdict movedVerdict
+  replay-verdict-moved size gaps r q l m long as-long =
+      rw long (admitted-moved (lateOpening size gaps) l m as-long _ _ (checked-moved _ (accepted []) (accepted []) refl))
+
+  -- both are refused alike, or both go on
+  data Plays : Verdict Course × List ℤ → Verdict Course × List ℤ → Type 0 where
+    neither : (r : Refusal) (l m : List ℤ) → Plays (refused r, l) (refused r, m)
+    both : (k e : Course) → Runs k e → Plays (accepted k, k .room) (accepted e, e .room)
+
+  gone-plays : (fs : List Frame) → AllFit d (map (λ (f : Frame). f .value) fs) → (g : Settings) (l m : List ℤ) (v : Verdict Table) → LeavesSound (traced g l v) → LeavesSound (traced g m (movedVerdict v))
+      → let o = traced g l v in let q = traced g m (movedVerdict v) in Plays (goneOn fs (o .0) (o .1)) (goneOn (map (movedFrame d) fs) (q .0) (q .1))
+  unfolding traced movedVerdict LeftBy goneOn
+  gone-plays fs h g l m (refused r) p q = neither r l m
+  gone-plays fs h g l m (accepted t) p q =
+      let c : Course = logger.begun (stateOf g t) (laid (needed g) t l) in
+      let n = laid (needed g) (movedAll d t) m in
+      both (replayed c fs) _ (subst (λ (s : State). Runs (replayed c fs) (replayed (logger.begun s n) (map (movedFrame d) fs))) (sym (state-moved g t)) (all-runs fs c n (laid-twin g t l m p q) h))
+
+  replay-plays : (size : Size) (gaps : ℕ) (r q : List ℕ) (l m : List ℤ) → RecordingMoved d r q → length m ≡ length l → Plays (replayOutcome size gaps r l) (replayOutcome size gaps q m)
+  replay-plays size gaps r q l m moves long =
+      let k = keptAs (lateOpening size gaps) in
+      let fs : List Frame = framesOf r in
+      let o = traced k l (replayVerdict size gaps r l) in
+      rw (moves .records)
+      (subst (λ (x : Verdict Table). LeavesSound (traced k m x) → let p = traced k m x in Plays (goneOn fs (o .0) (o .1)) (goneOn (map (movedFrame d) fs) (p .0) (p .1)))
+      (sym (replay-verdict-moved size gaps r q l m (moves .long) long)) (gone-plays fs (moves .fit) k l m _ (replay-leaves size gaps r l)) (replay-leaves size gaps q m))
+
+  plays-same : {o q : Verdict Course × List ℤ} → Plays o q → landedIn (q .0) ≡ map (movedLanded d) (landedIn (o .0))
+  unfolding landedIn
+  plays-same (neither r l m) = refl
+  plays-same (both k e b) = ap (λ (x : Course). x .landed) (b .same)
+
   -- the second caller, who has the first one's state and tally
   abbrev second : Caller → List ℤ → List (List ℕ) → Caller
   second c m gs = record { state = c .state; room = m; tally = c .tally; files = gs }
@@ -269,6 +349,15 @@ module _ (d : ℤ) where
     filed-too out too h =
         (ap (λ (n : ℕ). caller.filed (Written.Buckets n)) (length-moved d (tableOf (c .state) (c .room))), record { state = refl; tally = refl; along = record { twin = a .twin; files = one-more (c .files) gs (file-written out too h) (a .files) } })
 
+    played-goes : {o q : Verdict Course × List ℤ} → Plays o q → (caller.recounted (recount (q .0)) ≡ caller.recounted (recount (o .0))) × Goes (played c (o .0) (o .1)) (played (second c m gs) (q .0) (q .1))
+    unfolding recount played
+    played-goes (neither r l n) = (refl, stays)
+    played-goes (both k e b) = (
+      ap (λ (x : Course). caller.recounted (accepted (x .state, length (x .landed), x .refused))) (b .same)
+          ∙ ap (λ (n : ℕ). caller.recounted (accepted (k .state, n, k .refused))) (length-map (k .landed) (movedLanded d)),
+      record { state = ap (λ (x : Course). x .state) (b .same); tally = refl; along = record { twin = b .twin; files = a .files } },
+    )
+
     step : {x y : Call} → Higher d x y → (answer (second c m gs) y ≡ movedAnswer d (answer c x)) × Goes (left c x) (left (second c m gs) y)
     unfolding answer left movedAnswer movedVerdict begins
     step (opens-too g l n long) =
@@ -296,6 +385,7 @@ module _ (d : ℤ) where
         let too = getD gs i [] in
         let moves = a .files i in
         along begins k l n _ _ (admitted-moved g l n long (fileVerdict k f) (fileVerdict k too) (file-verdict-moved k f too moves)) (begun-goes k l n _ (load-leaves g f l (moves .bytes))) (load-leaves g too n (moves .bytes-too))
+    step (replays-too size gaps r q l n moves long) = played-goes (replay-plays size gaps r q l n moves long)
 
   -- ---- any calls
 
@@ -336,7 +426,7 @@ module _ (d : ℤ) (c e : Caller) (a : Alike d c e) where
 
 -- ---- nothing is left out
 
-all-higher : (d : ℤ) (xs : List Call) → ((v : ℤ) → List·Memᴰ v (readingsIn xs) → (signed v ≡ true) × (signed (v +ℤ d) ≡ true)) → AllHigher d xs (map (higher d) xs)
+all-higher : (d : ℤ) (xs : List Call) → AllFit d (readingsIn xs) → AllHigher d xs (map (higher d) xs)
 unfolding readingsIn higher
 all-higher d [] f = no-more
 all-higher d (caller.opens g l ∷ xs) f = each (opens-too g l l refl) (all-higher d xs f)
@@ -350,6 +440,9 @@ all-higher d (caller.worsts ∷ xs) f = each worsts-too (all-higher d xs f)
 all-higher d (caller.rows out ∷ xs) f = each (rows-too out out refl) (all-higher d xs f)
 all-higher d (caller.saves out ∷ xs) f = each (saves-too out out refl) (all-higher d xs f)
 all-higher d (caller.loads g i l ∷ xs) f = each (loads-too g i l l refl) (all-higher d xs f)
+all-higher d (caller.replays size gaps r l ∷ xs) f =
+    let moves = recording-raised d r (λ v m. f v (Memᴰ·append-left (readingsIn xs) m)) in
+    each (replays-too size gaps r _ l l moves refl) (all-higher d xs (λ v m. f v (Memᴰ·append-right (readingsOf r) m)))
 
 -- ---- the promise
 
@@ -380,4 +473,6 @@ offset =
       search-feeds = λ first last bar xs. refl;
       search-any = λ d first last bar. searches-too first last bar;
       search-same = λ d c e a first last bar. ap (λ (s : State). searchOutcome s (e .room) first last (bar +ℤ d)) (a .state) ∙ search-same d (c .state) (c .room) (e .room) (alike-along d c e a .twin) first last bar;
+      replay-same = λ d size gaps r q l m moves long. plays-same d (replay-plays d size gaps r q l m moves long);
+      raised-bytes = raised-bytes;
     }

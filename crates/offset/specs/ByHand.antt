@@ -1,4 +1,4 @@
--- Callers worked by hand: a pin near ground with the readings of H6, a late trace, and files from elsewhere; each without an offset and with one of 1,001.
+-- Callers worked by hand: a pin near ground with the readings of H6, a late trace, files from elsewhere, and recordings of the logger; each without an offset and with one of 1,001.
 use Prim.Native.Nat.{ℕ}
 use mathlib.Core.Path.{_≡_}
 use mathlib.Core.List.{List, [], _∷_, _++_}
@@ -14,8 +14,8 @@ use Rattle.rule.specs.ByHand.{bucket, gappy, gappyBase, inOrder, ofBase}
 use Rattle.rule.specs.Calls.{accepted, refused}
 use Rattle.over.specs.declared.Sought.{Sought}
 use Rattle.rule.specs.declared.Measured.{Measured}
-use Rattle.offset.specs.Offset.{AllHigher, FilesMoved}
-use Rattle.offset.specs.Caller.{Answer, Call, Caller, after, answers, drawn, filed, idle, lates, loads, lookups, measured, nexts, opens, pointed, rows, saves, searches, shown, traced, worsts}
+use Rattle.offset.specs.Offset.{AllHigher, FilesMoved, raised}
+use Rattle.offset.specs.Caller.{Answer, Call, Caller, after, answers, drawn, filed, idle, lates, loads, lookups, measured, nexts, opens, pointed, recounted, replays, rows, saves, searches, shown, traced, worsts}
 
 abbrev pub now : Settings → ℕ → ℕ → ℕ → State
 now g used runs readings = record { settings = g; used = used; runs = runs; readings = readings }
@@ -156,6 +156,58 @@ fileCalls = loads (inOrder (Steps 1)) 0 (replicate 12 (pos 7)) ∷ loads (inOrde
 abbrev pub toldFiles : List Answer
 toldFiles = traced (refused (Refusal.Record 1)) ∷ traced (refused Refusal.Length) ∷ []
 
+-- ---- recordings
+
+-- records by the bytes of three readings: at 32,768, at 32,769 over the wrap, again at 32,768, which is refused, and at 32,772; then a rest
+abbrev pub recording : List ℕ → List ℕ → List ℕ → List ℕ → List ℕ
+recording u v w rest = 255 ∷ 255 ∷ u ++ (0 ∷ 0 ∷ v ++ (255 ∷ 255 ∷ w ++ (3 ∷ 0 ∷ w ++ rest)))
+
+-- -3, 0 and 50
+abbrev pub recorded : List ℕ → List ℕ
+recorded rest = recording (253 ∷ 255 ∷ 255 ∷ 255 ∷ []) (0 ∷ 0 ∷ 0 ∷ 0 ∷ []) (50 ∷ 0 ∷ 0 ∷ 0 ∷ []) rest
+
+-- 998, 1,001 and 1,051
+abbrev pub recordedMoved : List ℕ → List ℕ
+recordedMoved rest = recording (230 ∷ 3 ∷ 0 ∷ 0 ∷ []) (233 ∷ 3 ∷ 0 ∷ 0 ∷ []) (27 ∷ 4 ∷ 0 ∷ 0 ∷ []) rest
+
+-- with C = 1 and K = 2: three records are accepted; late readings go on from there, and past two replays that are refused; a replay of no records takes the trace's place, and what was saved is loaded
+abbrev pub replayCalls : ℕ → (List ℕ → List ℕ) → ℤ → List Call
+replayCalls n r z =
+    replays (Base 1) 2 (r []) (replicate 16 (pos n))
+    ∷ lookups 32768
+    ∷ lookups 32772
+    ∷ lates 32770 z
+    ∷ replays (Base 1) 2 (r (1 ∷ [])) (replicate 16 (pos n))
+    ∷ replays (Base 1) 2 (r []) (replicate 15 (pos n))
+    ∷ lates 32769 z
+    ∷ lookups 32769
+    ∷ lates 32771 z
+    ∷ rows (replicate 4 (bucket n n (pos n) (pos n)))
+    ∷ saves (replicate 64 n)
+    ∷ replays (Steps 1) 1 [] (replicate 16 (pos n))
+    ∷ lookups 32768
+    ∷ loads (gappy (Base 1) 2) 0 (replicate 16 (pos n))
+    ∷ []
+
+-- by level, least and largest of the first two readings, and the last
+abbrev pub toldReplay : ℤ → ℤ → ℤ → ℤ → List Answer
+toldReplay level least largest last =
+    recounted (accepted (now (gappyBase 1 2) 3 2 3, 3, 1))
+    ∷ shown (Found.Level least 0 least least)
+    ∷ shown (Found.Level last 0 last last)
+    ∷ traced (accepted (now (gappyBase 1 2) 3 2 4))
+    ∷ recounted (refused Refusal.Length)
+    ∷ recounted (refused Refusal.Room)
+    ∷ traced (refused Refusal.Taken)
+    ∷ shown (Found.Level level 2 least largest)
+    ∷ traced (accepted (now (gappyBase 1 2) 2 1 5))
+    ∷ drawn (Written.Buckets 2) (bucket 32768 2 least largest ∷ bucket 32770 3 last last ∷ [])
+    ∷ filed (Written.Buckets 2)
+    ∷ recounted (accepted (now (gappyBase 2 1) 0 0 0, 0, 0))
+    ∷ shown (Found.Refused Refusal.Absent)
+    ∷ traced (accepted (now (gappyBase 1 2) 2 1 5))
+    ∷ []
+
 pub record ByHand : Type 0 where
   pub near-ground : answers (fresh []) (calls 7 (negsuc 2) (pos 0) (pos 50)) ≡ told (negsuc 1) (negsuc 2) (pos 0) (pos 50)
   pub with-offset : answers (fresh []) (calls 9 (pos 998) (pos 1001) (pos 1051)) ≡ told (pos 999) (pos 998) (pos 1001) (pos 1051)
@@ -163,14 +215,20 @@ pub record ByHand : Type 0 where
   pub late-with-offset : answers (fresh []) (lateCalls 9 (pos 998) (pos 1051)) ≡ toldLate (pos 998)
   pub files-near-ground : answers (fresh files) fileCalls ≡ toldFiles
   pub files-with-offset : answers (fresh filesMoved) fileCalls ≡ toldFiles
-  -- the tally counts readings and merges, and neither an open nor a load changes it
+  pub replay-near-ground : answers (fresh []) (replayCalls 7 recorded (pos 50)) ≡ toldReplay (negsuc 1) (negsuc 2) (pos 0) (pos 50)
+  pub replay-with-offset : answers (fresh []) (replayCalls 9 recordedMoved (pos 1051)) ≡ toldReplay (pos 999) (pos 998) (pos 1001) (pos 1051)
+  -- the tally counts readings and merges, and neither an open nor a load nor a replay changes it
   pub tallied : after (fresh []) (calls 7 (negsuc 2) (pos 0) (pos 50)) .tally ≡ record { accepted = 4; refused = 0; merges = 2 }
   pub late-tallied : after (fresh []) (lateCalls 7 (negsuc 2) (pos 50)) .tally ≡ record { accepted = 5; refused = 2; merges = 1 }
+  pub replay-tallied : after (fresh []) (replayCalls 7 recorded (pos 50)) .tally ≡ record { accepted = 2; refused = 1; merges = 3 }
   -- the promise speaks of these callers, who have rooms and outputs of their own
   pub calls-higher : AllHigher (pos 1001) (calls 7 (negsuc 2) (pos 0) (pos 50)) (calls 9 (pos 998) (pos 1001) (pos 1051))
   pub late-higher : AllHigher (pos 1001) (lateCalls 7 (negsuc 2) (pos 50)) (lateCalls 9 (pos 998) (pos 1051))
+  pub replay-higher : AllHigher (pos 1001) (replayCalls 7 recorded (pos 50)) (replayCalls 9 recordedMoved (pos 1051))
   pub no-files : FilesMoved (pos 1001) [] []
   pub files-moved : FilesMoved (pos 1001) files filesMoved
+  -- with its readings 1,001 more the first recording is the second, a rest of one byte kept
+  pub recording-raised : raised (pos 1001) (recorded (1 ∷ [])) ≡ recordedMoved (1 ∷ [])
   -- and d may be as far as the range is wide, either way
   pub far-up : AllHigher (pos 4294967295) (nexts (negsuc 2147483647) ∷ lates 9 (negsuc 2147483647) ∷ []) (nexts (pos 2147483647) ∷ lates 9 (pos 2147483647) ∷ [])
   pub far-down : AllHigher (negsuc 4294967294) (nexts (pos 2147483647) ∷ lates 9 (pos 2147483647) ∷ []) (nexts (negsuc 2147483647) ∷ lates 9 (negsuc 2147483647) ∷ [])

@@ -2,16 +2,18 @@
 use Prim.Native.Nat.{ℕ, _*_}
 use mathlib.Core.List.{List, [], _∷_}
 use lib.IntN.{ℤ}
-use lib.ListN.{getD, take}
+use lib.ListN.{getD, length, take}
 use Rattle.rule.specs.declared.Bucket.{Bucket}
 use Rattle.rule.specs.declared.Found.{Found}
 use Rattle.rule.specs.declared.Opening.{Opening}
+use Rattle.rule.specs.declared.Size.{Size}
 use Rattle.rule.specs.declared.State.{State}
 use Rattle.rule.specs.declared.Tally.{Tally}
 use Rattle.rule.specs.declared.Written.{Written}
 use Rattle.rule.specs.Calls.{Verdict, accepted, counted, lateOutcome, loaded, lookupOutcome, nextOutcome, onward, opened, refused, rowOutcome, saveOutcome, worstOutcome}
 use Rattle.over.specs.declared.Sought.{Sought}
 use Rattle.over.specs.Search.{searchOutcome}
+use Rattle.logger.specs.Replay.{Course, replayOutcome}
 use Rattle.rule.specs.declared.Measured.{Measured}
 
 -- what a caller has between calls; a file that is saved is put before the others
@@ -25,7 +27,7 @@ pub record Caller : Type 0 where
 abbrev pub idle : State → Tally → List (List ℕ) → Caller
 idle s t files = record { state = s; room = []; tally = t; files = files }
 
--- a call, with what is named and lent at it: a search gets the first and the last tick of a range and a bar, open and load get a room, row and save an output, and load the place of a file
+-- a call, with what is named and lent at it: a search gets the first and the last tick of a range and a bar, open, load and replay get a room, row and save an output, load the place of a file, and replay a recording
 pub data Call : Type 0 where
   opens : Opening → List ℤ → Call
   nexts : ℤ → Call
@@ -36,8 +38,9 @@ pub data Call : Type 0 where
   rows : List Bucket → Call
   saves : List ℕ → Call
   loads : Opening → ℕ → List ℤ → Call
+  replays : (size : Size) (gaps : ℕ) (recording : List ℕ) (room : List ℤ) → Call
 
--- of open, next, late and load; of lookup; of the search; of the worst error; of row, with the buckets that it wrote; of save
+-- of open, next, late and load; of lookup; of the search; of the worst error; of row, with the buckets that it wrote; of save; of replay, with two counts
 pub data Answer : Type 0 where
   traced : Verdict State → Answer
   shown : Found → Answer
@@ -45,6 +48,7 @@ pub data Answer : Type 0 where
   measured : Measured → Answer
   drawn : Written → List Bucket → Answer
   filed : Written → Answer
+  recounted : Verdict (State × ℕ × ℕ) → Answer
 
 -- what was written, a bucket taking so many places of the output
 unfoldable pub part : {A : Type 0} → ℕ → Written → List A → List A
@@ -54,6 +58,11 @@ part width (Written.Buckets n) out = take (width * n) out
 -- the file that load is given; a place where there is none stands for the empty file
 abbrev pub fileAt : Caller → ℕ → List ℕ
 fileAt c i = getD (c .files) i []
+
+-- the state, and how many records were accepted and how many refused
+unfoldable pub recount : Verdict Course → Verdict (State × ℕ × ℕ)
+recount (refused r) = refused r
+recount (accepted k) = accepted (k .state, length (k .landed), k .refused)
 
 unfoldable pub answer : Caller → Call → Answer
 answer c (opens g l) = traced (opened g l .0)
@@ -65,6 +74,7 @@ answer c worsts = measured (worstOutcome (c .state) (c .room))
 answer c (rows out) = let o = rowOutcome (c .state) (c .room) out in drawn (o .0) (part 1 (o .0) (o .1))
 answer c (saves out) = filed (saveOutcome (c .state) (c .room) out .0)
 answer c (loads g i l) = traced (loaded g (fileAt c i) l .0)
+answer c (replays size gaps recording l) = recounted (recount (replayOutcome size gaps recording l .0))
 
 -- after a reading, which the tally counts
 abbrev pub fed : Caller → Verdict State × List ℤ → Caller
@@ -75,6 +85,11 @@ fed c o =
 unfoldable pub begun : Caller → Verdict State → List ℤ → Caller
 begun c (refused r) l = c
 begun c (accepted s) l = record { state = s; room = l; tally = c .tally; files = c .files }
+
+-- after a replay: likewise, and the tally does not count its records
+unfoldable pub played : Caller → Verdict Course → List ℤ → Caller
+played c (refused r) l = c
+played c (accepted k) l = record { state = k .state; room = l; tally = c .tally; files = c .files }
 
 -- after a save: what was written is a file
 unfoldable pub kept : Caller → Written → List ℕ → Caller
@@ -91,6 +106,7 @@ left c worsts = c
 left c (rows out) = c
 left c (saves out) = let o = saveOutcome (c .state) (c .room) out in kept c (o .0) (o .1)
 left c (loads g i l) = let o = loaded g (fileAt c i) l in begun c (o .0) (o .1)
+left c (replays size gaps recording l) = let o = replayOutcome size gaps recording l in played c (o .0) (o .1)
 
 -- the answers to calls in turn, the first of the list first
 unfoldable pub answers : Caller → List Call → List Answer

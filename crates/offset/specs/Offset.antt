@@ -1,23 +1,27 @@
 -- A probe offset: one number added to all readings moves every level by that number, where nothing leaves the 32-bit range.
-use Prim.Native.Nat.{ℕ, _+_, _/_}
+use Prim.Native.Nat.{ℕ, _+_, _*_, _/_, _%_}
 use mathlib.Core.Path.{_≡_}
 use mathlib.Core.Bool.{true}
-use mathlib.Core.List.{List, [], _∷_, map, List·Memᴰ}
+use mathlib.Core.List.{List, [], _∷_, _++_, map, List·Memᴰ}
 use lib.IntN.{ℤ, pos, _+ℤ_}
-use lib.ListN.{getD, length}
+use lib.ListN.{drop, getD, length}
 use lib.Signed.{leZ}
 use Rattle.rule.specs.declared.Bucket.{Bucket}
 use Rattle.rule.specs.declared.Found.{Found}
 use Rattle.rule.specs.declared.Opening.{Opening}
+use Rattle.rule.specs.declared.Size.{Size}
 use Rattle.rule.specs.declared.State.{State}
 use Rattle.rule.specs.declared.Tally.{Tally}
 use Rattle.rule.specs.Bucket.{error, level, spread}
-use Rattle.rule.specs.Bytes.{recordsOf}
+use Rattle.rule.specs.Bytes.{bits, bytes, recordsOf}
+use Rattle.rule.specs.Calls.{Verdict, accepted, refused}
 use Rattle.rule.specs.Room.{signed, sound, tableOf}
 use Rattle.rule.specs.Table.{Table, worst}
 use Rattle.storage.specs.Bytes.{AllBytes}
 use Rattle.over.specs.Search.{searchOutcome}
-use Rattle.offset.specs.Caller.{Answer, Call, Caller, after, answer, answers, drawn, filed, idle, lates, left, loads, lookups, measured, nexts, opens, pointed, rows, saves, searches, shown, traced, worsts}
+use Rattle.logger.specs.declared.Frame.{Frame}
+use Rattle.logger.specs.Replay.{Course, Landed, framesOf, replayOutcome}
+use Rattle.offset.specs.Caller.{Answer, Call, Caller, after, answer, answers, drawn, filed, idle, lates, left, loads, lookups, measured, nexts, opens, pointed, recounted, replays, rows, saves, searches, shown, traced, worsts}
 
 -- ---- d higher, d being any whole number
 
@@ -27,6 +31,14 @@ moved d b = record { start = b .start; count = b .count; least = b .least +ℤ d
 
 abbrev pub movedAll : ℤ → Table → Table
 movedAll d t = map (moved d) t
+
+-- a record of a recording: the same counter, its reading d more
+abbrev pub movedFrame : ℤ → Frame → Frame
+movedFrame d f = record { counter = f .counter; value = f .value +ℤ d }
+
+-- so it is of one that a replay has accepted, at the same tick
+abbrev pub movedLanded : ℤ → Landed → Landed
+movedLanded d w = record { tick = w .tick; counter = w .counter; value = w .value +ℤ d }
 
 -- what lookup shows: the level, the least and the largest d higher, the error the same; a refusal the same
 unfoldable pub movedFound : ℤ → Found → Found
@@ -41,6 +53,7 @@ movedAnswer d (pointed s) = pointed s
 movedAnswer d (measured e) = measured e
 movedAnswer d (drawn w t) = drawn w (movedAll d t)
 movedAnswer d (filed w) = filed w
+movedAnswer d (recounted v) = recounted v
 
 -- ---- two callers
 
@@ -55,7 +68,21 @@ pub record FileMoved (d : ℤ) (f g : List ℕ) : Type 0 where
 abbrev pub FilesMoved : ℤ → List (List ℕ) → List (List ℕ) → Type 0
 FilesMoved d fs gs = (i : ℕ) → FileMoved d (getD fs i []) (getD gs i [])
 
--- the same call by a second caller, whose reading is d more and fits 32 bits as the first one's does, and whose bar is d more; each lends a room or an output of its own, as long as the other's
+-- the readings of a recording
+abbrev pub readingsOf : List ℕ → List ℤ
+readingsOf recording = map (λ (f : Frame). f .value) (framesOf recording)
+
+-- each fits 32 bits, and fits them with d
+abbrev pub AllFit : ℤ → List ℤ → Type 0
+AllFit d vs = (v : ℤ) → List·Memᴰ v vs → (signed v ≡ true) × (signed (v +ℤ d) ≡ true)
+
+-- recordings, one as long as the other, the records of the second d higher at the same counters, with readings that fit 32 bits as the first one's do
+pub record RecordingMoved (d : ℤ) (r q : List ℕ) : Type 0 where
+  pub long : length q ≡ length r
+  pub records : framesOf q ≡ map (movedFrame d) (framesOf r)
+  pub fit : AllFit d (readingsOf r)
+
+-- the same call by a second caller, whose reading is d more and fits 32 bits as the first one's does, whose bar is d more, and whose recording is so moved; each lends a room or an output of its own, as long as the other's
 pub data Higher (d : ℤ) : Call → Call → Type 0 where
   opens-too : (g : Opening) (l m : List ℤ) → length m ≡ length l → Higher d (opens g l) (opens g m)
   nexts-too : (v : ℤ) → signed v ≡ true → signed (v +ℤ d) ≡ true → Higher d (nexts v) (nexts (v +ℤ d))
@@ -66,13 +93,26 @@ pub data Higher (d : ℤ) : Call → Call → Type 0 where
   rows-too : (out too : List Bucket) → length too ≡ length out → Higher d (rows out) (rows too)
   saves-too : (out too : List ℕ) → length too ≡ length out → Higher d (saves out) (saves too)
   loads-too : (g : Opening) (i : ℕ) (l m : List ℤ) → length m ≡ length l → Higher d (loads g i l) (loads g i m)
+  replays-too : (size : Size) (gaps : ℕ) (r q : List ℕ) (l m : List ℤ) → RecordingMoved d r q → length m ≡ length l → Higher d (replays size gaps r l) (replays size gaps q m)
 
 -- so are calls in turn
 pub data AllHigher (d : ℤ) : List Call → List Call → Type 0 where
   none : AllHigher d [] []
   each : {x y : Call} {xs ys : List Call} → Higher d x y → AllHigher d xs ys → AllHigher d (x ∷ xs) (y ∷ ys)
 
--- the same call, its reading or its bar d more, in the same room or output
+-- the six bytes of a record
+abbrev pub sixBytes : Frame → List ℕ
+sixBytes f = f .counter % 256 ∷ f .counter / 256 ∷ bytes (bits (f .value))
+
+unfoldable pub bytesOf : List Frame → List ℕ
+bytesOf [] = []
+bytesOf (f ∷ fs) = sixBytes f ++ bytesOf fs
+
+-- the same recording, its readings d more; a rest of fewer than six bytes is kept
+abbrev pub raised : ℤ → List ℕ → List ℕ
+raised d r = bytesOf (map (movedFrame d) (framesOf r)) ++ drop (6 * (length r / 6)) r
+
+-- the same call, its readings or its bar d more, in the same room or output
 unfoldable pub higher : ℤ → Call → Call
 higher d (opens g l) = opens g l
 higher d (nexts v) = nexts (v +ℤ d)
@@ -83,8 +123,9 @@ higher d worsts = worsts
 higher d (rows out) = rows out
 higher d (saves out) = saves out
 higher d (loads g i l) = loads g i l
+higher d (replays size gaps r l) = replays size gaps (raised d r) l
 
--- the readings that calls are fed with
+-- the readings that calls are fed with, those of a recording too
 unfoldable pub readingsIn : List Call → List ℤ
 readingsIn [] = []
 readingsIn (opens g l ∷ xs) = readingsIn xs
@@ -96,6 +137,7 @@ readingsIn (worsts ∷ xs) = readingsIn xs
 readingsIn (rows out ∷ xs) = readingsIn xs
 readingsIn (saves out ∷ xs) = readingsIn xs
 readingsIn (loads g i l ∷ xs) = readingsIn xs
+readingsIn (replays size gaps r l ∷ xs) = readingsOf r ++ readingsIn xs
 
 -- what the second caller has is what the first has, d higher: the same state, and every bucket with the same ticks, moved
 pub record Alike (d : ℤ) (c e : Caller) : Type 0 where
@@ -104,6 +146,11 @@ pub record Alike (d : ℤ) (c e : Caller) : Type 0 where
   pub buckets : sound (c .state) (c .room) ≡ true → tableOf (e .state) (e .room) ≡ movedAll d (tableOf (c .state) (c .room))
   pub tally : e .tally ≡ c .tally
   pub files : FilesMoved d (c .files) (e .files)
+
+-- the records that a replay has accepted, last first
+unfoldable pub landedIn : Verdict Course → List Landed
+landedIn (refused r) = []
+landedIn (accepted k) = k .landed
 
 -- ---- the promise
 
@@ -126,7 +173,7 @@ pub record Offset : Type 0 where
   -- they stay alike
   pub leaves : (d : ℤ) (c e : Caller) → Alike d c e → (xs ys : List Call) → AllHigher d xs ys → Alike d (after c xs) (after e ys)
   -- and no calls are left out whose readings fit 32 bits, and fit them with d
-  pub any : (d : ℤ) (xs : List Call) → ((v : ℤ) → List·Memᴰ v (readingsIn xs) → (signed v ≡ true) × (signed (v +ℤ d) ≡ true)) → AllHigher d xs (map (higher d) xs)
+  pub any : (d : ℤ) (xs : List Call) → AllFit d (readingsIn xs) → AllHigher d xs (map (higher d) xs)
   -- a search, whatever it asks: the call itself answers it of what the caller has, which stays; it feeds no reading, and no search is left out
   pub searched : (c : Caller) (first last : ℕ) (bar : ℤ) → answer c (searches first last bar) ≡ pointed (searchOutcome (c .state) (c .room) first last bar)
   pub search-leaves : (c : Caller) (first last : ℕ) (bar : ℤ) → left c (searches first last bar) ≡ c
@@ -134,3 +181,8 @@ pub record Offset : Type 0 where
   pub search-any : (d : ℤ) (first last : ℕ) (bar : ℤ) → Higher d (searches first last bar) (searches first last (bar +ℤ d))
   -- with the bar d more, the second gets the first one's answer
   pub search-same : (d : ℤ) (c e : Caller) → Alike d c e → (first last : ℕ) (bar : ℤ) → searchOutcome (e .state) (e .room) first last (bar +ℤ d) ≡ searchOutcome (c .state) (c .room) first last bar
+  -- a replay, whatever the caller has: the same records are accepted, at the same ticks
+  pub replay-same : (d : ℤ) (size : Size) (gaps : ℕ) (r q : List ℕ) (l m : List ℤ) → RecordingMoved d r q → length m ≡ length l
+      → landedIn (replayOutcome size gaps q m .0) ≡ map (movedLanded d) (landedIn (replayOutcome size gaps r l .0))
+  -- and a recording of bytes is one of bytes with its readings d more
+  pub raised-bytes : (d : ℤ) (r : List ℕ) → AllBytes r → AllBytes (raised d r)

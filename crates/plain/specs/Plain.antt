@@ -12,11 +12,15 @@ use Rattle.over.specs.declared.Sought.{Sought}
 use Rattle.over.specs.Search.{searchOutcome}
 use Rattle.trace.specs.Answers.{answered}
 use Rattle.trace.specs.declared.Answer.{Answer}
+use Rattle.logger.specs.Replay.{replayOutcome}
+use Rattle.replay.specs.declared.Replayed.{Replayed}
+use Rattle.replay.specs.Answers as replay
 use Rattle.rule.specs.declared.Measured.{Measured}
 use Rattle.fields.specs.declared.Named.{Named}
 use Rattle.fields.specs.declared.Fields.{Fields}
 use Rattle.fields.specs.States.{fieldsOf, none, openingOf, stateFrom}
 use Rattle.plain.specs.declared.Reply.{Reply}
+use Rattle.plain.specs.declared.Recount.{Recount}
 use Rattle.plain.specs.declared.Shown.{Shown}
 use Rattle.plain.specs.declared.Hit.{Hit}
 use Rattle.plain.specs.declared.Counted.{Counted}
@@ -30,6 +34,11 @@ replying given (Answer.Refused r) = record { refusal = number r; place = place r
 -- with the room afterwards
 abbrev pub replied : Fields → Answer × List ℤ → Reply × List ℤ
 replied given a = (replying given (a .0), a .1)
+
+-- accepted: the trace, and how many records were accepted and refused; refused: zeros
+unfoldable pub recounting : Replayed → Recount
+recounting (Replayed.Done t a r) = record { refusal = 0; place = 0; state = fieldsOf (t .state); accepted = a; refused = r }
+recounting (Replayed.Refused r) = record { refusal = number r; place = place r; state = none; accepted = 0; refused = 0 }
 
 -- refused: zeros
 unfoldable pub showing : Found → Shown
@@ -91,3 +100,7 @@ saveReply state room out = told (saveOutcome (stateFrom state) room out)
 
 abbrev pub loadReply : Named → List ℕ → List ℤ → Reply × List ℤ
 loadReply named file room = replied none (answered (loaded (openingOf named) file room))
+
+-- the kind is not looked at: a replayed trace is late
+abbrev pub replayReply : Named → List ℕ → List ℤ → Recount × List ℤ
+replayReply named recording room = let o = replay.answered (replayOutcome (openingOf named .size) (named .gaps) recording room) in (recounting (o .0), o .1)

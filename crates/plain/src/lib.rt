@@ -1,9 +1,11 @@
 // Each answer as a plain record for other languages.
 ghost use mathlib.Core.Path.{_≡_};
-ghost use Rattle.plain.specs.Plain.{erring, pointing, replying, showing, telling};
+ghost use Rattle.plain.specs.Plain.{erring, pointing, recounting, replying, showing, telling};
 use fields::Fields;
 use fields::fields_of;
+use fields::none;
 use over::Sought;
+use replay::Replayed;
 use rule::Found;
 use rule::Measured;
 use rule::Written;
@@ -15,6 +17,16 @@ pub struct Reply {
     pub refusal: u32,
     pub place: usize,
     pub state: Fields,
+}
+
+// The trace that a replay leaves, and how many records were accepted and refused; zeros where it is refused.
+#[repr(C)]
+pub struct Recount {
+    pub refusal: u32,
+    pub place: usize,
+    pub state: Fields,
+    pub accepted: usize,
+    pub refused: usize,
 }
 
 // What a lookup shows; zeros where it is refused.
@@ -67,6 +79,31 @@ pub fn replying(given: Fields, a: Answer) -> Reply
             refusal: refusal::number(r),
             place: refusal::place(r),
             state: given,
+        },
+    }
+}
+
+pub fn recounting(a: Replayed) -> Recount
+    ensures { λ r. ⌜ r ≡ recounting a ⌝ }
+{
+    match a {
+        Replayed::Done {
+            trace,
+            accepted,
+            refused,
+        } => Recount {
+            refusal: 0,
+            place: 0,
+            state: fields_of(trace.state),
+            accepted,
+            refused,
+        },
+        Replayed::Refused(r) => Recount {
+            refusal: refusal::number(r),
+            place: refusal::place(r),
+            state: none(),
+            accepted: 0,
+            refused: 0,
         },
     }
 }

@@ -41,11 +41,14 @@ use Rattle.rooms.proofs.Leaving.{late-either, late-leaves, next-either, next-le
 use Rattle.demands.specs.History.{Accepted, Reading, Takes, arrived, runsOf, tableAfter}
 use Rattle.demands.specs.Served.{Served}
 use Rattle.demands.proofs.Instance.{demand3 as of-tables, instance-length}
-use Rattle.promises.specs.Reached.{Reached, SameSettings, late-refused, lates, load-refused, loads, next-refused, nexts, open-refused, opens}
+use Rattle.promises.specs.Reached.{Reached, SameSettings, late-refused, lates, load-refused, loads, next-refused, nexts, open-refused, opens, replay-refused}
 use Rattle.answered.specs.Answered.{baseNamed, namedBy, slotsNeeded}
 use Rattle.promises.specs.Demands.{Demand2, Demand3, Upheld}
 use Rattle.answered.proofs.Answering.{base-is, limit-named, needed-is}
-use Rattle.answered.proofs.Outcomes.{accepted-is, bytes-written, not-accepted, traced-refused}
+use Rattle.answered.proofs.Outcomes.{bytes-written}
+use Rattle.rooms.proofs.Outcomes.{accepted-is, not-accepted, traced-refused}
+use Rattle.logger.proofs.Along.{replay-refused as replay-leaves}
+use Rattle.promises.proofs.Replays.{replay-reached}
 
 -- ---- along the way
 
@@ -140,6 +143,7 @@ known {g} (next-refused {rs = rs} {s = s} {l = l} {m = m} {r = q} v r e) = subst
 known {g} (late-refused {rs = rs} {s = s} {l = l} {m = m} {r = q} tick v r e) = subst (Known g rs s) (sym (traced-refused (s .settings) l (lateVerdict s l tick v) q m e)) (known r)
 known {g} (open-refused {rs = rs} {s = s} {l = l} {m = m} {r = q} h r e) = subst (Known g rs s) (sym (traced-refused (kept h) l (admitted h l (accepted [])) q m e)) (known r)
 known {g} (load-refused {rs = rs} {s = s} {l = l} {m = m} {r = q} h file r e) = subst (Known g rs s) (sym (traced-refused (kept h) l (loadVerdict h file l) q m e)) (known r)
+known {g} (replay-refused {rs = rs} {s = s} {l = l} {m = m} size gaps recording r e) = subst (Known g rs s) (sym (replay-leaves size gaps recording l e)) (known r)
 known {g} (loads {rs = rs} {s = s} {t = t} {l = l} {m = m} {written = written} {n = n} out room h same r saves e) =
     let k = known r in
     let file : take (recordWidth * n) written ≡ saved (tableOf s l) = bytes-written s l out n written saves in
@@ -287,6 +291,7 @@ pub demand3 : Demand3
 unfolding baseNamed
 demand3 = record {
   begins = λ g l e. opens l e;
+  replays = replay-reached;
   picture-of-base = λ r c E few near. keeps r .picture c E (omega arith) near;
   picture-of-steps = λ r c E few near. keeps r .picture c E (omega arith) near;
   size-of-base = λ r. omega (arith, keeps r .size);

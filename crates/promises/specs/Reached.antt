@@ -3,16 +3,18 @@ use Prim.Native.Nat.{ℕ, _*_}
 use mathlib.Core.Path.{_≡_}
 use mathlib.Core.Bool.{true}
 use mathlib.Core.List.{List, [], _∷_}
-use lib.IntN.{ℤ}
+use lib.IntN.{ℤ, natAbs}
 use lib.ListN.{take}
 use Rattle.rule.specs.declared.Refusal.{Refusal}
 use Rattle.rule.specs.declared.Opening.{Opening}
+use Rattle.rule.specs.declared.Size.{Size}
 use Rattle.rule.specs.declared.State.{State}
 use Rattle.rule.specs.declared.Written.{Written}
 use Rattle.rule.specs.Calls.{refused, accepted, late, lateOutcome, loaded, nextOutcome, opened, saveOutcome}
 use Rattle.rule.specs.Room.{signed, tableOf}
 use Rattle.rule.specs.Table.{nextTick}
 use Rattle.demands.specs.History.{Reading}
+use Rattle.logger.specs.Replay.{Landed, replayOutcome}
 use Rattle.answered.specs.Answered.{baseNamed}
 
 -- the same settings: the same base limit, named by B or by C, and in order any K
@@ -35,6 +37,12 @@ pub data Reached (g : Opening) : List Reading → State → List ℤ → Type 0 
   late-refused : {rs : List Reading} {s : State} {l m : List ℤ} {r : Refusal} (tick : ℕ) (v : ℤ) → Reached g rs s l → lateOutcome s l tick v ≡ (refused r, m) → Reached g rs s m
   open-refused : {rs : List Reading} {s : State} {l m : List ℤ} {r : Refusal} (h : Opening) → Reached g rs s l → opened h l ≡ (refused r, m) → Reached g rs s m
   load-refused : {rs : List Reading} {s : State} {l m : List ℤ} {r : Refusal} (h : Opening) (file : List ℕ) → Reached g rs s l → loaded h file l ≡ (refused r, m) → Reached g rs s m
+  replay-refused : {rs : List Reading} {s : State} {l m : List ℤ} {r : Refusal} (size : Size) (gaps : ℕ) (recording : List ℕ) → Reached g rs s l → replayOutcome size gaps recording l ≡ (refused r, m) → Reached g rs s m
   -- saved by the call into any output, and the bytes that it wrote loaded into any room with the same settings
   loads : {rs : List Reading} {s t : State} {l m : List ℤ} {written : List ℕ} {n : ℕ} (out : List ℕ) (room : List ℤ) (h : Opening) → SameSettings h g → Reached g rs s l
       → saveOutcome s l out ≡ (Written.Buckets n, written) → loaded h (take (16 * n) written) room ≡ (accepted t, m) → Reached g rs t m
+
+-- the accepted records of a replay, as readings
+unfoldable pub readingsOf : List Landed → List Reading
+readingsOf [] = []
+readingsOf (w ∷ ws) = record { tick = natAbs (w .tick); value = w .value } ∷ readingsOf ws

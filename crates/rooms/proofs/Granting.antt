@@ -27,8 +27,8 @@ pub admits : (o : Opening) (l : List ℤ) → Granted (kept o) l → (v : Verdic
 unfolding admitted checked roomy
 admits o l g v = rw (size-base (o .size), g .base, g .gaps, le-leb (slotWidth * needed (kept o)) (length l) (g .long))
 
--- open and load answer and leave what the settings kept say, by whatever they are named
-admitted-kept : (o p : Opening) → kept o ≡ kept p → (l : List ℤ) (v : Verdict Table) → admitted o l v ≡ admitted p l v
+-- open, load and replay answer and leave what the settings kept say, by whatever they are named
+pub admitted-kept : (o p : Opening) → kept o ≡ kept p → (l : List ℤ) (v : Verdict Table) → admitted o l v ≡ admitted p l v
 unfolding admitted
 admitted-kept o p e l v =
     rw (size-base (o .size), size-base (p .size))

@@ -16,3 +16,4 @@ pub mod Arriving
 pub mod Passing
 pub mod Writing
 pub mod Leaving
+pub mod Outcomes

@@ -2,12 +2,16 @@
 use Rattle.rule.specs.Outcomes.{OneOutcome}
 use Rattle.rule.proofs.Determined.{by-pair, by-result}
 use Rattle.trace.proofs.Trace.open as opens
+use Rattle.trace.proofs.Trace.take as take
 use Rattle.trace.proofs.Trace.next as next
 use Rattle.trace.proofs.Trace.late as late
 use Rattle.trace.proofs.Trace.lookup as lookup
 
 pub open-one : OneOutcome opens.ended (λ M. opens.clauses)
 open-one M 𝓤 H A mem run κs a g r r′ l l′ = by-pair 𝓤 (λ x. (l .0, (x, l .1 .1)))
+
+pub take-one : OneOutcome take.ended (λ M. take.clauses)
+take-one M 𝓤 H A mem run κs a g r r′ l l′ = by-pair 𝓤 (λ x. (l .0, (l .1 .0, (x, l .1 .1 .1))))
 
 pub next-one : OneOutcome next.ended (λ M. next.clauses)
 next-one M 𝓤 H A mem run κs a g r r′ l l′ = by-pair 𝓤 (λ x. (l .0, (x, l .1 .1)))

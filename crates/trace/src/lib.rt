@@ -1,4 +1,4 @@
-// What a caller calls: a trace in order or late over lent room. No public call here asks anything of its caller.
+// What a caller calls: a trace in order or late over lent room. Open, next, late and lookup ask nothing of their caller.
 ghost use mathlib.Core.Path.{_≡_};
 ghost use Rattle.rule.specs.Calls.{lateOutcome, lookupOutcome, nextOutcome, opened, stateOf, traced};
 ghost use Rattle.rule.specs.Room.{laid, tableOf};
@@ -70,8 +70,8 @@ impl Trace {
         self
     }
 
-    // A reading that is refused, or goes to its place.
-    pub(crate) fn take(self, arrival: Arrival, room: &mut [i64], value: i32) -> Answer
+    // A reading that is refused, or goes to its place: for whoever knows its arrival.
+    pub fn take(self, arrival: Arrival, room: &mut [i64], value: i32) -> Answer
         requires { ⌜ Arrives (self .state) (now room) value arrival ⌝ }
         ensures { λ r. ⌜ (r, now (room .exit)) ≡ answered (traced (self .state .settings) (now (room .entry)) (taken (self .state) (now (room .entry)) value arrival)) ⌝ }
     {

@@ -7,7 +7,7 @@ use crate::rule::{self, Bucket, Kind};
 use crate::script::{nearest_base, Script};
 
 /// So many opens and as many loads of each size and kind, of which every sixth is in a room that is short.
-const OF_EACH_SIZE: usize = 126;
+pub(super) const OF_EACH_SIZE: usize = 126;
 /// So many of each size that would do if some of its bits were lost, and of each kind.
 const OF_EACH_WIDE: usize = 28;
 /// Traces that are saved and loaded.
@@ -16,11 +16,11 @@ const RELOADED: usize = 240;
 const OF_STATES: usize = 12;
 
 /// What `by` is where C is named, turn by turn.
-const BY_BASE: [u64; 5] = [1, 2, 1 << 32, 1 << 63, u64::MAX];
+pub(super) const BY_BASE: [u64; 5] = [1, 2, 1 << 32, 1 << 63, u64::MAX];
 
-const STEPS: [u64; 4] = [0, 1, MOST_STEPS, MOST_STEPS + 1];
-const BASES: [u64; 8] = [0, 1, 2, 3, 63, MOST_BASE - 1, MOST_BASE, MOST_BASE + 1];
-const WIDE: [u64; 15] = [
+pub(super) const STEPS: [u64; 4] = [0, 1, MOST_STEPS, MOST_STEPS + 1];
+pub(super) const BASES: [u64; 8] = [0, 1, 2, 3, 63, MOST_BASE - 1, MOST_BASE, MOST_BASE + 1];
+pub(super) const WIDE: [u64; 15] = [
     (1 << 31) + 1,
     (1 << 31) + 256,
     1 << 32,

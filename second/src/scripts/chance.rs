@@ -1,8 +1,9 @@
 //! Calls by chance from a seed: traces of both kinds, with states, rooms and files changed in one place, and settings, rooms and outputs that fit or
-//! do not.
+//! do not; now and then a recording takes the trace's place.
 
 use crate::calls::{self, Size, MOST_BASE, MOST_GAPS, MOST_STEPS, RECORD_BYTES, SLOT};
 use crate::command::{Name, Word};
+use crate::logger::{Frame, FRAME_BYTES};
 use crate::made;
 use crate::rule::{self, Bucket, Kind, TICKS};
 use crate::script::Script;
@@ -141,6 +142,7 @@ impl Script {
             20 => self.any_bucket(),
             21 => self.about_over(),
             _ if self.chance(8) => self.last_ticks(),
+            _ if self.chance(3) => self.any_replay(),
             _ => self.about_lookup(),
         }
     }
@@ -345,6 +347,38 @@ impl Script {
             let state = self.session.state;
             self.load_by(state.kind, state.base, state.gaps);
         }
+    }
+
+    /// A recording of a few records into the room at hand, by settings that it is long enough for or by others.
+    fn any_replay(&mut self) {
+        let mut counter = self.random.number() as u16;
+        let mut frames = Vec::new();
+        for _ in 0..self.random.below(16) {
+            let value = self.value();
+            frames.push(Frame { counter, value });
+            let step = match self.random.below(6) {
+                0 => self.random.number() as u16,
+                _ => self.random.between(-3, 4) as u16,
+            };
+            counter = counter.wrapping_add(step);
+        }
+        self.recording(&frames);
+        let slots = (self.session.lent / SLOT) as u64;
+        let base = self.random.below(slots.clamp(3, MOST_BASE + 2) - 2) + 1;
+        let fitting = slots.saturating_sub(base + 1).clamp(1, MOST_GAPS);
+        let gaps = self.random.choice(&[fitting, fitting, 1]);
+        let (size, gaps) = match self.random.below(10) {
+            0 => (self.size_beyond(), gaps),
+            1 => (self.size_of(base), self.beyond(MOST_GAPS)),
+            2 => (Size::Base(slots.clamp(1, MOST_BASE)), MOST_GAPS),
+            _ => (self.size_of(base), gaps),
+        };
+        if self.chance(5) {
+            let length = self.random.below(FRAME_BYTES as u64 * 9) as usize;
+            self.file_length(length);
+        }
+        let kind = self.random.choice(&[0, 1, 7, 1 << 32, u64::MAX]);
+        self.replay_as(kind, size, gaps);
     }
 
     fn load_by(&mut self, kind: Kind, base: u64, gaps: u64) {

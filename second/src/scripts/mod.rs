@@ -8,6 +8,7 @@ pub mod files;
 pub mod late;
 pub mod long;
 pub mod next;
+pub mod replay;
 pub mod search;
 pub mod sessions;
 pub mod settings;
@@ -18,8 +19,8 @@ use crate::arrivals::ARRIVALS;
 use crate::script::Script;
 
 /// The scripts that are one and the same each time; besides them there is one by chance for each seed.
-pub const NAMES: [&str; 12] = [
-    "arrivals", "base", "buckets", "files", "late", "long", "next", "search", "sessions",
+pub const NAMES: [&str; 13] = [
+    "arrivals", "base", "buckets", "files", "late", "long", "next", "replay", "search", "sessions",
     "settings", "short", "unsound",
 ];
 
@@ -33,6 +34,7 @@ pub fn of_name(name: &str) -> Option<Script> {
         "late" => late::write,
         "long" => long::write,
         "next" => next::write,
+        "replay" => replay::write,
         "search" => search::write,
         "sessions" => sessions::write,
         "settings" => settings::write,
@@ -60,6 +62,7 @@ pub fn wanted_headings() -> Vec<(String, u64)> {
     }
     for arrivals in ARRIVALS {
         wanted.push((arrivals::heading(&arrivals), 2_000));
+        wanted.push((replay::heading(&arrivals), 500));
     }
     for fault in files::FAULTS {
         wanted.push((files::heading(fault), 1_000));

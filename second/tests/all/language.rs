@@ -183,9 +183,9 @@ fn files_are_loaded_and_changed() {
         "copy from=0 to=1 count=1",
         "load size=1",
         // Past the end nothing is copied and nothing put.
-        "copy from=0 to=4095 count=2",
-        "byte at=65536 value=1",
-        "record at=4096 start=1",
+        "copy from=0 to=40959 count=2",
+        "byte at=655360 value=1",
+        "record at=40960 start=1",
         "record at=1 start=3 count=1 least=9 largest=9",
         "load size=1",
     ]);
@@ -211,6 +211,89 @@ fn files_are_loaded_and_changed() {
         .flat_map(|&number| [number, 0, 0, 0])
         .collect();
     assert!(told[7].ends_with(&format!(" file {}", checksum(&bytes))));
+}
+
+#[test]
+fn recordings_are_replayed_and_told_whole() {
+    let told = told::lines(
+        "room numbers=20
+file bytes=12
+frame counter=65535 value=-2
+frame at=1 counter=196608 value=4294967299
+replay size=2 gaps=2 by=7
+show
+file bytes=11
+replay size=2 by=1
+frame at=0 counter=65535 value=-2147483648
+file bytes=12
+replay size=2 by=1
+replay size=2
+replay gaps=257
+replay gaps=257 size=1
+show
+",
+    );
+    let lines: Vec<&str> = told.lines().collect();
+    let numbers = |least| {
+        let mut numbers = [0; 20];
+        numbers[..8].copy_from_slice(&[32_768, 1, least, least, 32_769, 1, 3, 3]);
+        numbers
+    };
+    let [before, after] = [-2, -2_147_483_648].map(numbers);
+    let rooms = [before, after].map(|numbers| checksum(&numbers));
+    let bytes = [255, 255, 254, 255, 255, 255, 0, 0, 3, 0, 0, 0];
+    let changed = [255, 255, 0, 0, 0, 128, 0, 0, 3, 0, 0, 0];
+    let refused = |number, room: &str, bytes: &[i64]| {
+        let file = checksum(bytes);
+        format!("replay {number} 0 0 0 0 0 0 0 0 0 room {room} file {file}")
+    };
+    let accepted = |room: &str, bytes: &[i64]| {
+        let file = checksum(bytes);
+        format!("replay 0 0 1 2 2 2 1 2 2 0 room {room} file {file}")
+    };
+    let shown = |numbers: [i64; 20]| {
+        let numbers = numbers.map(|number| number.to_string());
+        format!("show 1 2 2 2 1 2 {}", numbers.join(" "))
+    };
+    assert_eq!(
+        lines,
+        [
+            accepted(&rooms[0], &bytes),
+            shown(before),
+            refused(7, &rooms[0], &bytes[..11]),
+            accepted(&rooms[1], &changed),
+            refused(3, &rooms[1], &changed),
+            refused(1, &rooms[1], &changed),
+            refused(2, &rooms[1], &changed),
+            shown(after),
+        ]
+    );
+}
+
+#[test]
+fn a_logger_s_record_past_the_end_is_not_written() {
+    // Four bytes are left behind the last place.
+    let told = told::lines(
+        "file bytes=655360
+replay size=1 gaps=1
+frame at=109226 counter=65535 value=-1
+frame at=18446744073709551615 counter=65535 value=-1
+replay size=1 gaps=1
+frame at=109225 counter=513 value=1027
+replay size=1 gaps=1
+file bytes=655361
+replay size=1 gaps=1
+",
+    );
+    let mut bytes = vec![0; 655_360];
+    let zeros = checksum(&bytes);
+    bytes[655_350..655_356].copy_from_slice(&[1, 2, 3, 4, 0, 0]);
+    let files: Vec<&str> = told
+        .lines()
+        .map(|line| line.rsplit(' ').next().unwrap())
+        .collect();
+    let changed = checksum(&bytes);
+    assert_eq!(files, [&zeros, &zeros, &changed, &changed]);
 }
 
 #[test]

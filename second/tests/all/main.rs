@@ -9,6 +9,7 @@ mod lines;
 mod offset;
 mod over;
 mod refusals;
+mod replay;
 mod round_trips;
 mod script;
 mod sound;

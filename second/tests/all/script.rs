@@ -323,9 +323,112 @@ fn calls_are_counted_as_what_they_are_of_b_and_c() {
 #[test]
 fn the_script_of_base_limits_meets_every_sort() {
     let met = sizes_of(&scripts::of_name("base").unwrap().text);
-    for sort in sizes::wanted().keys() {
+    let wanted = sizes::wanted();
+    for sort in wanted.keys().filter(|sort| !sort.starts_with("replay ")) {
         let times = met.get(sort).copied().unwrap_or(0);
         assert!(times >= 50, "{sort}: {times}");
+    }
+}
+
+#[test]
+fn the_script_of_replays_meets_every_sort() {
+    let script = scripts::of_name("replay").unwrap();
+    let met = told::obey(script.text.as_bytes(), &mut std::io::sink())
+        .unwrap()
+        .met();
+    let of_replays = |sort: &str| ["replay ", "record"].iter().any(|of| sort.starts_with(of));
+    let wanted = counts::wanted();
+    let wanted = wanted.iter().filter(|(sort, _)| of_replays(sort));
+    assert!(wanted.clone().count() > 60);
+    for (sort, &times) in wanted {
+        let there = met.get(sort).copied().unwrap_or(0);
+        assert!(there >= times, "{sort}: {there} of {times}");
+    }
+}
+
+/// What a replay of these counters by C = 2 is counted as; its readings are -1.
+fn recordings_of(gaps: usize, counters: &[u16]) -> Vec<String> {
+    let [numbers, bytes] = [4 * (gaps + 3), 6 * counters.len()];
+    let mut script = format!("room numbers={numbers}\nfile bytes={bytes}\n");
+    for (at, counter) in counters.iter().enumerate() {
+        script += &format!("frame at={at} counter={counter} value=-1\n");
+    }
+    script += &format!("replay size=1 gaps={gaps}\n");
+    let counts = told::obey(script.as_bytes(), &mut std::io::sink()).unwrap();
+    let sort = |name: &String| name.strip_prefix("recording: ").map(String::from);
+    counts.met().keys().filter_map(sort).collect()
+}
+
+#[test]
+fn recordings_are_counted_as_what_they_are() {
+    let below = "a reading below 0";
+    let recordings: [(usize, &[u16], &[&str]); 9] = [
+        (1, &[], &[]),
+        (1, &[9], &[below]),
+        (
+            1,
+            &[65_535, 0],
+            &[below, "all of several accepted", "wraps forward"],
+        ),
+        (
+            1,
+            &[0, 65_535],
+            &[
+                below,
+                "all of several accepted",
+                "wraps backward",
+                "wraps backward and is accepted",
+            ],
+        ),
+        (
+            2,
+            &[40_000, 7_232, 7_233],
+            &[
+                "a difference of -32767",
+                "a difference of -32768",
+                "a reading at tick 0",
+                below,
+                "accepted below the newest before an accepted one",
+                "all of several accepted",
+            ],
+        ),
+        (
+            2,
+            &[0, 32_766, 65_533],
+            &["a difference of 32766", "a difference of 32767", below],
+        ),
+        (
+            2,
+            &[65_000, 32_000, 65_000, 32_001, 60_000],
+            &[
+                below,
+                "refused by 11 before an accepted one",
+                "wraps backward",
+                "wraps forward",
+            ],
+        ),
+        (
+            2,
+            &[0, 2, 4, 1],
+            &[
+                below,
+                "refused above the newest before an accepted one",
+                "refused by 9 before an accepted one",
+            ],
+        ),
+        (
+            6,
+            &[65_000, 30_000, 60_000, 20_000, 50_000, 10_000],
+            &[
+                below,
+                "all of several accepted",
+                "wraps forward",
+                "wraps forward three times",
+            ],
+        ),
+    ];
+    for (gaps, counters, sorts) in recordings {
+        assert_eq!(recordings_of(gaps, counters), sorts, "{counters:?}");
     }
 }
 

@@ -1,13 +1,17 @@
-//! The easy ways to get the rule wrong, each on an input where it shows; those to get a search wrong, each on the script of searches; and those to
-//! get B and C wrong, each on the script of base limits.
+//! The easy ways to get the rule wrong, each on an input where it shows; those to get a search wrong, each on the script of searches; those to
+//! get B and C wrong, each on the script of base limits; and those to get a replay wrong, each on a recording where it shows and on the script of
+//! replays.
 
 use crate::support::{bucket, Trace};
-use second::calls::{Size::Steps, GAPS, OVERFULL, RECORD_BYTES, ROOM, STEPS, UNSOUND};
+use second::calls::{
+    self, Size::Steps, GAPS, LENGTH, OVERFULL, RECORD_BYTES, ROOM, STEPS, UNSOUND,
+};
 use second::clauses;
 use second::command::{Command, Name, Word};
-use second::rule::{insertion, limit, neighbours, runs, Bucket, Kind};
+use second::rule::{self, insertion, limit, neighbours, runs, Bucket, Kind, TICKS};
 use second::scripts;
-use second::session::{kind_of, record_of_bytes, Answer, Session};
+use second::session::{kind_of, record_of_bytes, size_of, Answer, Session};
+use std::sync::LazyLock;
 
 /// A way to keep a table: what makes a pair cheap, what a merged bucket is, what may be merged.
 struct Way {
@@ -493,4 +497,337 @@ fn a_late_room_without_k() {
         needed: |_, base, _| base + 1,
         ..RIGHT_SIZE
     });
+}
+
+/// The record that differences are taken from.
+#[derive(Clone, Copy, PartialEq)]
+enum Newest {
+    Highest,
+    LastAccepted,
+    LastRecord,
+    HighestEvenIfRefused,
+    /// The highest one's tick with the last record's counter.
+    HighestByLastCounter,
+}
+
+/// A way to replay: how a record is read, what a difference is, where the first record is, what the newest is and what is counted; and whether the
+/// room is cleared before the length is looked at, whether it is looked at, and whether the kind is.
+struct ReplayWay {
+    counter: fn(u8, u8) -> i64,
+    value: fn([u8; 4]) -> i64,
+    difference: fn(i64) -> i64,
+    first: i64,
+    newest: Newest,
+    refused_as_accepted: bool,
+    clears_before_7: bool,
+    any_length: bool,
+    looks_at_kind: bool,
+}
+
+const RIGHT_REPLAY: ReplayWay = ReplayWay {
+    counter: |low, high| i64::from(low) + 256 * i64::from(high),
+    value: |bytes| i64::from(i32::from_le_bytes(bytes)),
+    difference: |plain| match plain {
+        ..-32_768 => plain + 65_536,
+        32_768.. => plain - 65_536,
+        _ => plain,
+    },
+    first: 32_768,
+    newest: Newest::Highest,
+    refused_as_accepted: false,
+    clears_before_7: false,
+    any_length: false,
+    looks_at_kind: false,
+};
+
+/// The table with the records accepted and refused, or the refusal and whether the room is left.
+type Replayed = Result<(Vec<Bucket>, u64, u64), (u32, bool)>;
+
+/// What a replay is asked for.
+struct Asked {
+    kind: u64,
+    base: Option<u64>,
+    gaps: u64,
+    lent: usize,
+    recording: Vec<u8>,
+}
+
+/// The replays of the script, and what they answer.
+static OF_THE_SCRIPT: LazyLock<Vec<(Asked, Replayed)>> = LazyLock::new(|| {
+    let script = scripts::of_name("replay").unwrap();
+    let mut session = Session::new();
+    let mut replays = Vec::new();
+    for line in script.text.lines() {
+        let Some(command) = Command::of_line(line).unwrap() else {
+            continue;
+        };
+        let asked = (command.word == Word::Replay).then(|| Asked {
+            kind: session.setting(&command, Name::Kind),
+            base: size_of(&command).base(),
+            gaps: session.setting(&command, Name::Gaps),
+            lent: session.lent,
+            recording: session.lent_file().to_vec(),
+        });
+        if let Answer::Replayed(right) = session.obey(&command) {
+            let right = match right {
+                Ok(right) => Ok((session.buckets(), right.accepted, right.refused)),
+                Err(refusal) => Err((refusal.number, true)),
+            };
+            replays.push((asked.unwrap(), right));
+        }
+    }
+    replays
+});
+
+impl ReplayWay {
+    fn answer(&self, asked: &Asked) -> Replayed {
+        let base = asked.base.ok_or((STEPS, true))?;
+        if !(1..=256).contains(&asked.gaps) {
+            return Err((GAPS, true));
+        }
+        let short = asked.lent < calls::needed_numbers(Kind::Late, base, asked.gaps);
+        let odd = !asked.recording.len().is_multiple_of(6) && !self.any_length;
+        if short {
+            return Err((ROOM, true));
+        }
+        if odd {
+            return Err((LENGTH, !self.clears_before_7));
+        }
+        if self.looks_at_kind && asked.kind == 0 {
+            return Ok((Vec::new(), 0, 0));
+        }
+        Ok(self.replayed(base, asked.gaps, &asked.recording))
+    }
+
+    fn replayed(&self, base: u64, gaps: u64, recording: &[u8]) -> (Vec<Bucket>, u64, u64) {
+        let mut table: Vec<Bucket> = Vec::new();
+        let mut newest: Option<(i64, i64)> = None;
+        let (mut accepted, mut refused) = (0, 0);
+        for bytes in recording.chunks_exact(6) {
+            let counter = (self.counter)(bytes[0], bytes[1]);
+            let value = (self.value)(bytes[2..].try_into().unwrap());
+            let tick = newest.map_or(self.first, |(tick, from)| {
+                tick + (self.difference)(counter - from)
+            });
+            // One below 0 is far above in 32 bits.
+            let good = (0..TICKS as i64).contains(&tick)
+                && rule::holding_bucket(&table, tick as u64).is_none()
+                && rule::runs_with(&table, tick as u64) <= gaps;
+            if good {
+                rule::reading(Kind::Late, base, &mut table, tick as u64, value);
+            }
+            if good || self.refused_as_accepted {
+                accepted += 1;
+            } else {
+                refused += 1;
+            }
+            let higher = newest.is_none_or(|(highest, _)| tick > highest);
+            let raised = match self.newest {
+                Newest::Highest | Newest::HighestByLastCounter => good && higher,
+                Newest::LastAccepted => good,
+                Newest::LastRecord => true,
+                Newest::HighestEvenIfRefused => higher,
+            };
+            if raised {
+                newest = Some((tick, counter));
+            } else if self.newest == Newest::HighestByLastCounter {
+                newest = newest.map(|(tick, _)| (tick, counter));
+            }
+        }
+        (table, accepted, refused)
+    }
+
+    /// The replays of the script that are answered otherwise than the call answers them.
+    fn differences(&self) -> usize {
+        let differs = |(asked, right): &&(Asked, Replayed)| self.answer(asked) != *right;
+        OF_THE_SCRIPT.iter().filter(differs).count()
+    }
+}
+
+#[test]
+fn the_right_way_to_replay() {
+    assert_eq!(RIGHT_REPLAY.differences(), 0);
+}
+
+/// On records of these counters by C = 4, and in a hundred replays of the script.
+fn differs_replayed(wrong: ReplayWay, gaps: u64, counters: &[u16]) {
+    let mut recording = Vec::new();
+    for counter in counters {
+        let [low, high] = counter.to_le_bytes();
+        recording.extend([low, high, 9, low, 0, 128]);
+    }
+    differs_on_the_recording(wrong, gaps, &recording);
+}
+
+fn differs_on_the_recording(wrong: ReplayWay, gaps: u64, recording: &[u8]) {
+    let asked = Asked {
+        kind: 0,
+        base: Some(4),
+        gaps,
+        lent: 4 * (gaps as usize + 5),
+        recording: recording.to_vec(),
+    };
+    let mut room = vec![0; asked.lent];
+    let right = match calls::replay(calls::Size::Base(4), gaps, recording, &mut room) {
+        Ok(right) => {
+            let record = |slot: &[i64]| bucket(slot[0] as u64, slot[1] as u64, slot[2], slot[3]);
+            let table = room[..4 * right.state.used as usize].chunks(4).map(record);
+            Ok((table.collect(), right.accepted, right.refused))
+        }
+        Err(refusal) => Err((refusal.number, true)),
+    };
+    assert_eq!(RIGHT_REPLAY.answer(&asked), right);
+    assert_ne!(wrong.answer(&asked), right);
+    let differences = wrong.differences();
+    assert!(differences >= 100, "{differences}");
+}
+
+#[test]
+fn the_newest_as_the_last_accepted() {
+    let wrong = ReplayWay {
+        newest: Newest::LastAccepted,
+        ..RIGHT_REPLAY
+    };
+    differs_replayed(wrong, 4, &[0, 32_767, 1, 65_534]);
+}
+
+#[test]
+fn the_newest_as_the_last_record() {
+    let wrong = ReplayWay {
+        newest: Newest::LastRecord,
+        ..RIGHT_REPLAY
+    };
+    differs_replayed(wrong, 4, &[0, 32_767, 1, 65_534]);
+}
+
+#[test]
+fn the_newest_raised_by_refused_records() {
+    let wrong = ReplayWay {
+        newest: Newest::HighestEvenIfRefused,
+        ..RIGHT_REPLAY
+    };
+    differs_replayed(wrong, 2, &[0, 2, 32_769, 65_535]);
+}
+
+#[test]
+fn the_last_record_s_counter_with_the_newest_tick() {
+    let wrong = ReplayWay {
+        newest: Newest::HighestByLastCounter,
+        ..RIGHT_REPLAY
+    };
+    differs_replayed(wrong, 1, &[5, 4, 6]);
+}
+
+#[test]
+fn a_difference_of_32768_as_it_is() {
+    let wrong = ReplayWay {
+        difference: |plain| match (RIGHT_REPLAY.difference)(plain) {
+            -32_768 => 32_768,
+            difference => difference,
+        },
+        ..RIGHT_REPLAY
+    };
+    differs_replayed(wrong, 2, &[0, 32_768]);
+}
+
+#[test]
+fn a_difference_of_32767_as_one_below_0() {
+    let wrong = ReplayWay {
+        difference: |plain| match (RIGHT_REPLAY.difference)(plain) {
+            32_767 => -32_769,
+            difference => difference,
+        },
+        ..RIGHT_REPLAY
+    };
+    differs_replayed(wrong, 2, &[0, 32_767]);
+}
+
+#[test]
+fn a_counter_that_does_not_wrap() {
+    let wrong = ReplayWay {
+        difference: |plain| plain,
+        ..RIGHT_REPLAY
+    };
+    differs_replayed(wrong, 2, &[65_535, 0]);
+}
+
+#[test]
+fn a_difference_that_is_never_below_0() {
+    let wrong = ReplayWay {
+        difference: |plain| plain.rem_euclid(65_536),
+        ..RIGHT_REPLAY
+    };
+    differs_replayed(wrong, 2, &[5, 4]);
+}
+
+#[test]
+fn the_first_record_at_0() {
+    let wrong = ReplayWay {
+        first: 0,
+        ..RIGHT_REPLAY
+    };
+    differs_replayed(wrong, 1, &[0]);
+}
+
+#[test]
+fn refused_records_counted_as_accepted() {
+    let wrong = ReplayWay {
+        refused_as_accepted: true,
+        ..RIGHT_REPLAY
+    };
+    differs_replayed(wrong, 1, &[0, 0]);
+}
+
+#[test]
+fn a_counter_high_byte_first() {
+    let wrong = ReplayWay {
+        counter: |low, high| (RIGHT_REPLAY.counter)(high, low),
+        ..RIGHT_REPLAY
+    };
+    differs_replayed(wrong, 1, &[0, 1]);
+}
+
+#[test]
+fn a_reading_without_a_sign() {
+    let wrong = ReplayWay {
+        value: |bytes| i64::from(u32::from_le_bytes(bytes)),
+        ..RIGHT_REPLAY
+    };
+    differs_replayed(wrong, 1, &[0]);
+}
+
+#[test]
+fn a_reading_high_byte_first() {
+    let wrong = ReplayWay {
+        value: |bytes| i64::from(i32::from_be_bytes(bytes)),
+        ..RIGHT_REPLAY
+    };
+    differs_replayed(wrong, 1, &[0]);
+}
+
+#[test]
+fn a_length_refused_after_the_room_is_cleared() {
+    let wrong = ReplayWay {
+        clears_before_7: true,
+        ..RIGHT_REPLAY
+    };
+    differs_on_the_recording(wrong, 1, &[0; 7]);
+}
+
+#[test]
+fn bytes_behind_the_last_whole_record_passed_over() {
+    let wrong = ReplayWay {
+        any_length: true,
+        ..RIGHT_REPLAY
+    };
+    differs_on_the_recording(wrong, 1, &[0; 7]);
+}
+
+#[test]
+fn a_trace_in_order_where_the_kind_is_0() {
+    let wrong = ReplayWay {
+        looks_at_kind: true,
+        ..RIGHT_REPLAY
+    };
+    differs_replayed(wrong, 1, &[0]);
 }

@@ -1,0 +1,5 @@
+-- Laws that belong to no one function.
+pub mod Stepping
+pub mod Feeding
+pub mod Calling
+pub mod OneOutcome

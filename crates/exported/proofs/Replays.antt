@@ -1,6 +1,6 @@
 -- ndz_replay keeps the demands.
-use Prim.Native.Nat.{ℕ, suc, _+_, _*_, _%_}
-use mathlib.Core.Path.{_≡_, refl, sym, ap, _∙_, subst}
+use Prim.Native.Nat.{_+_, _*_}
+use mathlib.Core.Path.{_≡_, refl, sym, ap, _∙_}
 use mathlib.Core.Bool.{true}
 use mathlib.Core.List.{List, [], _∷_, _++_}
 use native.Mathlib.Omega.{arith}
@@ -12,23 +12,20 @@ use Rattle.rule.specs.Answers.{number, place}
 use Rattle.rule.specs.Calls.{Verdict, accepted, lateOutcome, opened, refused}
 use Rattle.rule.specs.Room.{signed}
 use Rattle.trace.specs.Answers.{answer, answered}
-use Rattle.logger.specs.Replay.{Course, Landed, begun, framesOf, lateOpening, replayOutcome}
-use Rattle.logger.specs.True.{Event, Near, fedTrue, firstOf, sent}
+use Rattle.logger.specs.Replay.{Course, Landed, lateOpening, replayOutcome}
 use Rattle.logger.proofs.Along.{replay-keeps}
 use Rattle.logger.proofs.Replaying as replaying
 use Rattle.replay.specs.Answers as replay
-use Rattle.fields.specs.declared.Fields.{Fields}
 use Rattle.fields.specs.declared.Named.{Named}
 use Rattle.fields.specs.States.{fieldsOf, kindOf, none, openingOf, sizeOf, stateFrom}
 use Rattle.fields.proofs.SameState.{same-state}
 use Rattle.plain.specs.declared.Recount.{Recount}
-use Rattle.plain.specs.declared.Reply.{Reply}
-use Rattle.plain.specs.Plain.{openReply, recounting, replayReply, replied, replying}
-use Rattle.answered.specs.Answered.{Answered, Row, firstOf as firstRow, openRows, recordingRows, said}
+use Rattle.plain.specs.Plain.{recounting, replied, replying}
+use Rattle.answered.specs.Answered.{Answered, Row, openRows, recordingRows, said}
 use Rattle.answered.proofs.Answering.{demand1}
 use Rattle.promises.specs.Reached.{readingsOf}
 use Rattle.exported.specs.Exported.{Called}
-use Rattle.exported.specs.Replay.{ExportedReplay, Recounts, lateNamed, readingsIn, replayReadings}
+use Rattle.exported.specs.Replay.{ExportedReplay, Recounts, lateNamed, readingsIn}
 use Rattle.exported.proofs.Exporting.{accepts, due, numbered, saying}
 
 -- ---- by the verdict

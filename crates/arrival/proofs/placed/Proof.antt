@@ -1,5 +1,4 @@
 -- `arrival::placed` meets its contract: each return is its case of the arrival.
-use borrow.Author.Needs.{needs}
 use borrow.Author.Tests.{le-leb, le-ltb, lt-leb, lt-ltb}
 use native.Mathlib.Omega.{arith}
 use Prim.Native.Nat.{_+_, _-_}

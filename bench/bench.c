@@ -198,11 +198,15 @@ static void recordings(ndz_settings settings, uint32_t frames)
     snprintf(what, sizeof what, "replay of %" PRIu32 " frames, B = %" PRIu64 ", K = %" PRIu64, frames, settings.size, settings.gaps);
     line(what, frames, of_library, of_plain);
     whole = library;
+    static int64_t replayed_room[NUMBERS];
+    memcpy(replayed_room, library_room, numbers * sizeof *replayed_room);
     plain_checks = 1;
     of_library = feed_frames(ndz_late, &library, ndz_open(settings, library_room, numbers).state, recording, frames, library_room, numbers);
     of_plain = feed_frames(plain_late, &plain, plain_open(settings, plain_room, numbers).state, recording, frames, plain_room, numbers);
     same_replayed(&library, &plain, numbers);
     same_replayed(&library, &whole, numbers);
+    if (memcmp(library_room, replayed_room, numbers * sizeof *replayed_room) != 0)
+        fail("the room of a replay and that of single readings");
     line("the same by single readings", frames, of_library, of_plain);
     free(recording);
 }

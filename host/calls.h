@@ -6,8 +6,11 @@
 
 typedef ndz_written callee(ndz_state state, const int64_t *room, size_t numbers, uint8_t *out, size_t out_bytes);
 
-/* What the command `save` calls: ndz_save, and in the self test another. */
+typedef ndz_replayed replayer(ndz_settings settings, const uint8_t *recording, size_t bytes, int64_t *room, size_t numbers);
+
+/* What the commands `save` and `replay` call: ndz_save and ndz_replay, and in the self test others. */
 extern callee *save;
+extern replayer *replay;
 
 /* Obeys one command; the line is taken apart. */
 void obey(char *line);

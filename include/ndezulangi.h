@@ -230,7 +230,8 @@ ndz_answer ndz_load(ndz_settings settings, const uint8_t *file, size_t bytes, in
  * the true ticks, shifted so that the first is 32768. A recording of no bytes makes an empty trace. No tally is touched.
  * The trace goes on with ndz_late, by ticks of which the first record's is 32768, and saves and loads as any late trace.
  * Where the call is refused nothing is written: go on with `state` only where `refusal` is 0.
- * Refuses: NDZ_STEPS, NDZ_GAPS, NDZ_ROOM, NDZ_LENGTH (`bytes` is not a multiple of NDZ_FRAME_BYTES). */
+ * The room is that of NDZ_LATE. Refuses: NDZ_STEPS, NDZ_GAPS, NDZ_ROOM, NDZ_LENGTH (`bytes` is not a multiple of
+ * NDZ_FRAME_BYTES). */
 ndz_replayed ndz_replay(ndz_settings settings, const uint8_t *recording, size_t bytes, int64_t *room, size_t numbers);
 
 /* Goes on with the state of an accepted answer, and with the state at hand where it was refused. Returns the refusal. */

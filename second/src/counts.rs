@@ -1,6 +1,8 @@
 //! What an obeyed script meets, and how much of it all the scripts together must meet.
 
-use crate::calls::{Size, State, Tally, LAST_CALL_REFUSAL, RECORD, RECORD_BYTES, UNSOUND};
+use crate::calls::{
+    needed_numbers, Size, State, Tally, LAST_CALL_REFUSAL, LENGTH, RECORD, RECORD_BYTES, UNSOUND,
+};
 use crate::clauses::{self, CLAUSES};
 use crate::command::{Command, Name, Word};
 use crate::recordings;
@@ -20,6 +22,10 @@ const MOST_RECORDS: usize = 768;
 const ALONE: u64 = 200;
 /// So many searches of each sort, at the least.
 const OF_EACH_SORT: u64 = 100;
+
+/// Numbers other than 0 that a replay leaves.
+const BEHIND: &str = "replay with numbers behind the needed slots";
+const LEFT_BY_7: &str = "replay refused 7 over numbers";
 
 #[derive(Default)]
 pub struct Counts {
@@ -114,6 +120,22 @@ impl Counts {
     }
 
     fn replayed(&mut self, session: &Session, refusal: u32) {
+        let State { base, gaps, .. } = session.state;
+        let written = match refusal {
+            0 => needed_numbers(Kind::Late, base, gaps),
+            _ => 0,
+        };
+        // So that whoever writes them is seen.
+        if session.lent_numbers()[written..]
+            .iter()
+            .any(|&number| number != 0)
+        {
+            match refusal {
+                0 => self.count(BEHIND),
+                LENGTH => self.count(LEFT_BY_7),
+                _ => {}
+            }
+        }
         for (what, times) in recordings::met(session.state, refusal, session.lent_file()) {
             *self.met.entry(what).or_default() += times;
         }
@@ -257,6 +279,8 @@ pub fn wanted() -> Met {
         }
     }
     for (name, times) in [
+        (BEHIND, 200),
+        (LEFT_BY_7, 200),
         ("place above 1023", 200),
         ("file above 768 records", 200),
         ("room above 3076 numbers", 200),

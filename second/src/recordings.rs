@@ -16,7 +16,7 @@ const OF_EACH_LENGTH: u64 = 20;
 /// A sort by its name, and whether a recording is of it.
 pub type Sort = (&'static str, fn(&[Outcome]) -> bool);
 
-pub const SORTS: [Sort; 15] = [
+pub const SORTS: [Sort; 16] = [
     ("recording: wraps forward", |all| {
         all.iter().any(wraps_forward)
     }),
@@ -45,6 +45,10 @@ pub const SORTS: [Sort; 15] = [
     }),
     ("recording: a reading at tick 0", |all| {
         all.iter().any(|one| one.tick == 0 && one.refusal.is_none())
+    }),
+    ("recording: a reading at tick 8388608 or above", |all| {
+        let far = |one: &Outcome| one.tick >= 1 << 23 && one.refusal.is_none();
+        all.iter().any(far)
     }),
     ("recording: all of several accepted", |all| {
         all.len() > 1 && all.iter().all(|one| one.refusal.is_none())

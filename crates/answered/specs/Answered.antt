@@ -186,7 +186,7 @@ pub record Demand1 : Type 0 where
   pub rows : (s : State) (l : List ℤ) (out : List Bucket) → let o = rowOutcome s l out in Answered (saidWritten (o .0)) (writeRows s l (length out) (s .used)) out (o .1)
   pub saves : (s : State) (l : List ℤ) (out : List ℕ) → let o = saveOutcome s l out in Answered (saidWritten (o .0)) (writeRows s l (length out) (16 * s .used)) out (o .1)
   pub loads : (g : Opening) (file : List ℕ) (l : List ℤ) → let o = loaded g file l in Answered (said (o .0)) (openRows g l ++ fileRows g file) l (o .1)
-  -- a replay opens a late trace; what its records are refused for is what late readings are, and only counted
+  -- a replay opens a late trace; its records' own refusals are those of late readings, and only counted: `fed-accepted`, `fed-refused` in logger's Promise.antt
   pub replays : (size : Size) (gaps : ℕ) (recording : List ℕ) (l : List ℤ) → let o = replayOutcome size gaps recording l in
       Answered (said (o .0)) (openRows (record { kind = Late; size = size; gaps = gaps }) l ++ recordingRows recording) l (o .1)
   -- a trace opens with any C from 1 to 512, where K is 1 to 256 late and the room is long enough; so with any B from 1 to 256, by `same-open`

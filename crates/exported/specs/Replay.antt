@@ -43,7 +43,7 @@ pub record ExportedReplay : Type 0 where
       → replayReply (record { kind = kind; size = b; gaps = gaps; by = 0 }) recording l ≡ replayReply (record { kind = kind; size = 2 * b; gaps = gaps; by = suc n }) recording l
   -- every record is accepted or refused: six bytes for each
   pub counted : (named : Named) (recording : List ℕ) (l : List ℤ) → let r = replayReply named recording l .0 in r .refusal ≡ 0 → 6 * (r .accepted + r .refused) ≡ length recording
-  -- demands 2 and 3: what it leaves is what ndz_open of a late trace and ndz_late of its accepted records leave, of which `Promised` speaks, and there are as many as it says
+  -- demands 2 and 3: what it leaves is among what calls from ndz_open of a late trace on leave, with its accepted records as the readings, so that all of `Promised` is said of it; and there are as many as it says
   pub called : (named : Named) (recording : List ℕ) (l : List ℤ) → let o = replayReply named recording l in o .0 .refusal ≡ 0
       → Called (lateNamed named) (replayReadings named recording l) (o .0 .state) (o .1)
   pub as-many : (named : Named) (recording : List ℕ) (l : List ℤ) → let r = replayReply named recording l .0 in length (replayReadings named recording l) ≡ r .accepted

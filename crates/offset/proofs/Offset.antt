@@ -453,6 +453,16 @@ twice-level b =
     let m = level b in
     (omega (whole, middle-up a z, middle-down a z, sum m m, one-side (a +ℤ z), one-side m), omega (whole, middle-up a z, middle-down a z, sum m m, sum (m +ℤ m) (pos 1), one-side (a +ℤ z), one-side m))
 
+replay-answers : (c : Caller) (size : Size) (gaps : ℕ) (r : List ℕ) (l m : List ℤ) (k : Course) → replayOutcome size gaps r l ≡ (accepted k, m)
+    → (answer c (caller.replays size gaps r l) ≡ caller.recounted (accepted (k .state, length (k .landed), k .refused))) × (left c (caller.replays size gaps r l) ≡ record { state = k .state; room = m; tally = c .tally; files = c .files })
+unfolding answer left recount played
+replay-answers c size gaps r l m k e = (ap (λ (o : Verdict Course × List ℤ). caller.recounted (recount (o .0))) e, ap (λ (o : Verdict Course × List ℤ). played c (o .0) (o .1)) e)
+
+replay-refused : (c : Caller) (size : Size) (gaps : ℕ) (r : List ℕ) (l m : List ℤ) (x : Refusal) → replayOutcome size gaps r l ≡ (refused x, m)
+    → (answer c (caller.replays size gaps r l) ≡ caller.recounted (refused x)) × (left c (caller.replays size gaps r l) ≡ c)
+unfolding answer left recount played
+replay-refused c size gaps r l m x e = (ap (λ (o : Verdict Course × List ℤ). caller.recounted (recount (o .0))) e, ap (λ (o : Verdict Course × List ℤ). played c (o .0) (o .1)) e)
+
 pub offset : Offset
 unfolding after answer answers left readingsIn
 offset =
@@ -474,5 +484,7 @@ offset =
       search-any = λ d first last bar. searches-too first last bar;
       search-same = λ d c e a first last bar. ap (λ (s : State). searchOutcome s (e .room) first last (bar +ℤ d)) (a .state) ∙ search-same d (c .state) (c .room) (e .room) (alike-along d c e a .twin) first last bar;
       replay-same = λ d size gaps r q l m moves long. plays-same d (replay-plays d size gaps r q l m moves long);
+      replay-answers = replay-answers;
+      replay-refused = replay-refused;
       raised-bytes = raised-bytes;
     }

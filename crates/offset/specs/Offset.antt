@@ -9,6 +9,7 @@ use lib.Signed.{leZ}
 use Rattle.rule.specs.declared.Bucket.{Bucket}
 use Rattle.rule.specs.declared.Found.{Found}
 use Rattle.rule.specs.declared.Opening.{Opening}
+use Rattle.rule.specs.declared.Refusal.{Refusal}
 use Rattle.rule.specs.declared.Size.{Size}
 use Rattle.rule.specs.declared.State.{State}
 use Rattle.rule.specs.declared.Tally.{Tally}
@@ -181,6 +182,11 @@ pub record Offset : Type 0 where
   pub search-any : (d : ℤ) (first last : ℕ) (bar : ℤ) → Higher d (searches first last bar) (searches first last (bar +ℤ d))
   -- with the bar d more, the second gets the first one's answer
   pub search-same : (d : ℤ) (c e : Caller) → Alike d c e → (first last : ℕ) (bar : ℤ) → searchOutcome (e .state) (e .room) first last (bar +ℤ d) ≡ searchOutcome (c .state) (c .room) first last bar
+  -- a replay: the call itself answers it, with the state and two counts; accepted, its trace and room take the place of those at hand, refused, all stays; tally and files stay either way
+  pub replay-answers : (c : Caller) (size : Size) (gaps : ℕ) (r : List ℕ) (l m : List ℤ) (k : Course) → replayOutcome size gaps r l ≡ (accepted k, m)
+      → (answer c (replays size gaps r l) ≡ recounted (accepted (k .state, length (k .landed), k .refused))) × (left c (replays size gaps r l) ≡ record { state = k .state; room = m; tally = c .tally; files = c .files })
+  pub replay-refused : (c : Caller) (size : Size) (gaps : ℕ) (r : List ℕ) (l m : List ℤ) (x : Refusal) → replayOutcome size gaps r l ≡ (refused x, m)
+      → (answer c (replays size gaps r l) ≡ recounted (refused x)) × (left c (replays size gaps r l) ≡ c)
   -- a replay, whatever the caller has: the same records are accepted, at the same ticks
   pub replay-same : (d : ℤ) (size : Size) (gaps : ℕ) (r q : List ℕ) (l m : List ℤ) → RecordingMoved d r q → length m ≡ length l
       → landedIn (replayOutcome size gaps q m .0) ≡ map (movedLanded d) (landedIn (replayOutcome size gaps r l .0))

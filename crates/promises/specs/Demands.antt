@@ -8,6 +8,7 @@ use lib.ListN.{drop, length, take}
 use Rattle.rule.specs.declared.Bucket.{Bucket}
 use Rattle.rule.specs.declared.Found.{Found}
 use Rattle.rule.specs.declared.Kind.{Kind}
+use Rattle.rule.specs.declared.Kind.the-variants.{Late}
 use Rattle.rule.specs.declared.Opening.{Opening}
 use Rattle.rule.specs.declared.Settings.{Settings}
 use Rattle.rule.specs.declared.Size.{Size}
@@ -24,7 +25,7 @@ use Rattle.demands.specs.Curve.{Curve, steps}
 use Rattle.demands.specs.History.{Reading, arrived, runsOf, tableAfter}
 use Rattle.demands.specs.Served.{Extremes, Near}
 use Rattle.answered.specs.Answered.{baseNamed, mostSteps, namedBy, slotsNeeded}
-use Rattle.logger.specs.Replay.{Course, lateOpening, replayOutcome}
+use Rattle.logger.specs.Replay.{Course, replayOutcome}
 use Rattle.promises.specs.Reached.{Reached, SameSettings, readingsOf}
 
 -- lookup itself answers, at the reading's tick, a level within E of the reading
@@ -94,7 +95,7 @@ pub record Demand3 : Type 0 where
   pub begins : (g : Opening) (l : List ℤ) {s : State} {m : List ℤ} → opened g l ≡ (accepted s, m) → Reached g [] s m
   -- and of every accepted replay: what it leaves is reached by the opening of a late trace and its accepted records, each a late reading at its tick
   pub replays : (size : Size) (gaps : ℕ) (recording : List ℕ) (l : List ℤ) {c : Course} {m : List ℤ} → replayOutcome size gaps recording l ≡ (accepted c, m)
-      → Reached (lateOpening size gaps) (readingsOf (c .landed)) (c .state) m
+      → Reached (record { kind = Late; size = size; gaps = gaps }) (readingsOf (c .landed)) (c .state) m
   -- of a trace opened with C, for every curve of at most (C + 1) / 2 flat steps, rounded down: where all readings are within E of it, lookup shows each within E, and the worst error is at most E
   pub picture-of-base : {k : Kind} {base gaps : ℕ} {rs : List Reading} {s : State} {l : List ℤ} → Reached (record { kind = k; size = Base base; gaps = gaps }) rs s l
       → (c : Curve) (E : ℕ) → steps c ≤ (base + 1) / 2 → Near E c rs → ((r : Reading) → List·Memᴰ r rs → Seen E s l r) × (worst (tableOf s l) ≤ E)

@@ -57,6 +57,14 @@ pub fn wanted_headings() -> Vec<(String, u64)> {
         ("# in order, each reading told".to_string(), 1_000),
         ("# in order, far past the limit".to_string(), 10_000),
     ];
+    for (heading, calls) in [
+        (replay::FAR, 300),
+        (replay::LARGEST, 40),
+        (replay::OVER_A_TRACE, 1_500),
+        (replay::GONE_ON_AFTER, 2_000),
+    ] {
+        wanted.push((heading.to_string(), calls));
+    }
     for order in late::ORDERS {
         wanted.push((late::heading(order), 1_000));
     }

@@ -19,6 +19,8 @@ const OF_EACH_LENGTH: usize = 25;
 const OF_EACH_WIDE: usize = 100;
 /// Recordings made step by step, of each sort.
 const WALKS: usize = 160;
+/// Recordings that lead far up.
+const FAR_UP: usize = 105;
 /// Traces that refused replays leave as they are, each with every set of faults.
 const HELD: usize = 40;
 /// Replays that are gone on from.
@@ -48,12 +50,19 @@ pub fn write(script: &mut Script) {
         script.replayed_arrivals(&arrivals);
     }
     script.walked_recordings();
+    script.far_recordings();
     script.replayed_sizes();
     script.replayed_large();
     script.replays_over_a_trace();
     script.replays_gone_on();
     script.long_recording();
 }
+
+/// The headings of what must not be left out.
+pub const FAR: &str = "# recordings far up";
+pub const LARGEST: &str = "# replayed, the largest tables";
+pub const OVER_A_TRACE: &str = "# refused replays over a trace";
+pub const GONE_ON_AFTER: &str = "# gone on after a replay";
 
 /// The heading of the replays in this order of arrival.
 pub fn heading(arrivals: &Arrivals) -> String {
@@ -147,9 +156,12 @@ impl Script {
     /// Shown number by number.
     fn replays_by_hand(&mut self) {
         self.heading("# replays worked by hand");
-        let recordings: [&[u16]; 12] = [
+        let recordings: [&[u16]; 15] = [
             &[],
             &[7],
+            &[0],
+            &[32_768],
+            &[65_535],
             // The newest is the second, not the third.
             &[0, 32_767, 1, 65_534],
             // A difference of 32,768 is taken as -32,768.
@@ -301,6 +313,29 @@ impl Script {
         }
     }
 
+    /// As far up as so few records lead, to tick 8,388,608 and above: three ticks to a run, and the next run as far above as a counter tells. The last
+    /// one is a run too many.
+    fn far_recordings(&mut self) {
+        self.heading(FAR);
+        for _ in 0..FAR_UP {
+            let size = self.small_size();
+            let first = self.first_counter();
+            let mut walk = Walk::new(size, MOST_GAPS, first, 5);
+            for _ in 0..MOST_GAPS {
+                for difference in [1, 1, 32_767] {
+                    let value = self.logged_value();
+                    walk.step(difference, value);
+                }
+            }
+            walk.step(-1, 7);
+            self.recording(&walk.frames);
+            self.replay_anew(size, MOST_GAPS);
+            let newest = walk.newest as u32;
+            self.late(newest + 1, 3);
+            self.lookup(newest);
+        }
+    }
+
     /// By B and by C at each bound, by numbers that would do if some of their bits were lost, and in rooms that are short.
     fn replayed_sizes(&mut self) {
         self.heading("# replayed by either name");
@@ -345,7 +380,7 @@ impl Script {
 
     /// Tables of as many buckets as there can be, and about as many.
     fn replayed_large(&mut self) {
-        self.heading("# replayed, the largest tables");
+        self.heading(LARGEST);
         for (size, gaps) in [
             (Size::Steps(256), 256),
             (Size::Base(512), 255),
@@ -371,7 +406,7 @@ impl Script {
 
     /// Every set of the faults that 1, 2, 3 and 7 are for, one after the other over one trace, which goes on each time.
     fn replays_over_a_trace(&mut self) {
-        self.heading("# refused replays over a trace");
+        self.heading(OVER_A_TRACE);
         for turn in 0..HELD as u32 {
             let (size, gaps) = (self.small_size(), self.random.between(1, 4) as u64);
             let base = size.base().expect("a size in bounds");
@@ -423,7 +458,7 @@ impl Script {
 
     /// Readings, lookups, searches, rows; saved and loaded, under either name; and replayed again.
     fn replays_gone_on(&mut self) {
-        self.heading("# gone on after a replay");
+        self.heading(GONE_ON_AFTER);
         for turn in 0..GONE_ON {
             let base = self.random.between(1, 12) as u64;
             let gaps = self.random.between(1, 6) as u64;

@@ -122,6 +122,8 @@ fn whatever_the_counters_begin_at() {
         }
         assert_eq!((truth.fed.tally.accepted, truth.fed.tally.refused), (6, 2));
         truth.is_replayed(Base(2), 2);
+        let alone = of_counters(Base(1), 1, &[constant as u16]);
+        assert_eq!(alone, (vec![bucket(32_768, 1, 0, 0)], 1, 0));
     }
 }
 

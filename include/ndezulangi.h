@@ -44,9 +44,9 @@ extern "C" {
 #define NDZ_LATE 1     /* each reading names its tick, in any order */
 
 /* What `size` names: B, which stands for C = 2B, or C, the base limit, itself. Any other number than 0 is taken as by base,
- * and the state that is handed back has C alone. In a trace that was opened empty, also where it was saved and loaded again
- * with its settings: if every reading is within E of some curve of at most (C + 1) / 2 flat steps, rounded down, every
- * reading is within E of the steps kept. By B these are curves of at most B flat steps. */
+ * and the state that is handed back has C alone. In a trace that was opened empty or replayed, also where it was saved and
+ * loaded again with its settings: if every reading is within E of some curve of at most (C + 1) / 2 flat steps, rounded
+ * down, every reading is within E of the steps kept. By B these are curves of at most B flat steps. */
 #define NDZ_BY_STEPS 0 /* B, 1 to 256: at most 2B steps in order */
 #define NDZ_BY_BASE 1  /* C, 1 to 512: at most C steps in order */
 

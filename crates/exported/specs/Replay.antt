@@ -5,12 +5,13 @@ use mathlib.Core.Logic.{_≢_}
 use mathlib.Core.List.{List, [], _++_}
 use lib.IntN.{ℤ}
 use lib.ListN.{length}
+use Rattle.rule.specs.declared.Kind.the-variants.{Late}
 use Rattle.rule.specs.Calls.{Verdict, accepted, refused}
 use Rattle.demands.specs.History.{Reading}
 use Rattle.logger.specs.Replay.{Course, begun, framesOf, replayOutcome}
 use Rattle.logger.specs.True.{Event, Near, fedTrue, firstOf, sent}
 use Rattle.fields.specs.declared.Named.{Named}
-use Rattle.fields.specs.States.{fieldsOf, none, openingOf, stateFrom}
+use Rattle.fields.specs.States.{fieldsOf, none, openingOf, sizeOf, stateFrom}
 use Rattle.plain.specs.declared.Recount.{Recount}
 use Rattle.plain.specs.Plain.{openReply, replayReply}
 use Rattle.answered.specs.Answered.{Row, openRows, recordingRows}
@@ -36,7 +37,7 @@ replayReadings named recording l = readingsIn (replayOutcome (openingOf named .s
 
 pub record ExportedReplay : Type 0 where
   -- demand 1, whatever kind is named
-  pub replays : (named : Named) (recording : List ℕ) (l : List ℤ) → let o = replayReply named recording l in Recounts (openRows (openingOf (lateNamed named)) l ++ recordingRows recording) l (o .1) (o .0)
+  pub replays : (named : Named) (recording : List ℕ) (l : List ℤ) → let o = replayReply named recording l in Recounts (openRows (record { kind = Late; size = sizeOf (named .by) (named .size); gaps = named .gaps }) l ++ recordingRows recording) l (o .1) (o .0)
   pub any-kind : (named : Named) (recording : List ℕ) (l : List ℤ) → replayReply named recording l ≡ replayReply (lateNamed named) recording l
   -- B is C = 2B
   pub same-replay : (kind b gaps n : ℕ) (recording : List ℕ) (l : List ℤ)

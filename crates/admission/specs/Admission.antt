@@ -1,4 +1,4 @@
--- The answer of the check that open and load begin with: document 01's verdict, case by case.
+-- The answer of the check that open, load and replay begin with: document 01's verdict, case by case.
 use Rattle.rule.specs.declared.Settings.{Settings}
 use Rattle.rule.specs.Calls.{Verdict, refused, accepted}
 use Rattle.rule.specs.Table.{Table, needed}

@@ -1,2 +1,2 @@
--- The answer of the check that open and load begin with.
+-- The answer of the check that open, load and replay begin with.
 pub mod Admission

@@ -1,4 +1,4 @@
-// The check that open and load begin with: what is named is good, and the room is long enough.
+// The check that open, load and replay begin with: what is named is good, and the room is long enough.
 ghost use mathlib.Core.Path.{_≡_};
 ghost use mathlib.Core.List.{[]};
 ghost use Rattle.rule.specs.Calls.{accepted, admitted, kept};

@@ -26,7 +26,8 @@ use Rattle.answered.proofs.Answering.{demand1}
 use Rattle.promises.specs.Reached.{readingsOf}
 use Rattle.exported.specs.Exported.{Called}
 use Rattle.exported.specs.Replay.{ExportedReplay, Recounts, lateNamed, readingsIn}
-use Rattle.exported.proofs.Exporting.{accepts, due, numbered, saying}
+use Rattle.exported.proofs.Answering.{due, numbered, saying}
+use Rattle.exported.proofs.Reaching.{accepts}
 
 -- ---- by the verdict
 

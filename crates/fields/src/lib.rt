@@ -8,7 +8,7 @@ use rule::Size;
 use rule::State;
 use trace::Trace;
 
-// What a trace is opened or loaded with: its kind is 0 in order and any other number late; its size is B where `by` is 0, and C where it is any other number; and K.
+// What a trace is opened, loaded or replayed with: its kind is 0 in order and any other number late; its size is B where `by` is 0, and C where it is any other number; and K.
 #[repr(C)]
 pub struct Named {
     pub kind: usize,
@@ -102,7 +102,7 @@ pub fn fields_of(s: State) -> Fields
     }
 }
 
-// The state that a refused open or load answers: no call accepts it.
+// The state that a refused open, load or replay answers: no call accepts it.
 pub fn none() -> Fields
     ensures { λ r. ⌜ r ≡ none ⌝ }
 {

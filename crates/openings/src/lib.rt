@@ -1,4 +1,4 @@
-// What a trace is opened or loaded with, and what the state keeps of it. Only `base_of` and `kept` ask something of their caller: 2B is formed of a good B alone.
+// What a trace is opened, loaded or replayed with, and what the state keeps of it. Only `base_of` and `kept` ask something of their caller: 2B is formed of a good B alone.
 ghost use mathlib.Core.Bool.{true};
 ghost use mathlib.Core.Path.{_≡_};
 ghost use mathlib.Core.List.{[]};

@@ -85,7 +85,7 @@ unfoldable pub sizeGood : Size → Bool
 sizeGood (Steps b) = bounded most b
 sizeGood (Base c) = baseGood c
 
--- what open and load ask of what is named and of the room, before they go on
+-- what open, load and replay ask of what is named and of the room, before they go on
 unfoldable pub admitted : Opening → List ℤ → Verdict Table → Verdict Table
 admitted o l v =
     checked

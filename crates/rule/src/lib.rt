@@ -34,7 +34,7 @@ pub enum Size {
     Base(usize),
 }
 
-// What a trace is opened or loaded with: its kind, B or C, and K.
+// What a trace is opened, loaded or replayed with: its kind, B or C, and K.
 pub struct Opening {
     pub kind: Kind,
     pub size: Size,

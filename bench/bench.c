@@ -12,7 +12,12 @@ typedef ndz_answer (*next_call)(ndz_state, int64_t *, size_t, int32_t);
 typedef ndz_answer (*late_call)(ndz_state, int64_t *, size_t, uint32_t, int32_t);
 typedef ndz_replayed (*replay_call)(ndz_settings, const uint8_t *, size_t, int64_t *, size_t);
 
-static int64_t library_room[NUMBERS], plain_room[NUMBERS];
+static const ndz_settings most = {.kind = NDZ_LATE, .size = NDZ_MOST_STEPS, .gaps = NDZ_MOST_GAPS};
+
+enum { GROWN = 391, BURST = 64 }; /* the ticks of each stretch in the full table, and the readings of a burst over it */
+
+static int64_t library_room[NUMBERS], plain_room[NUMBERS], full_room[NUMBERS];
+static ndz_state full;
 
 static double now(void)
 {
@@ -36,10 +41,25 @@ static int32_t value_at(uint32_t tick)
     return (int32_t)((tick % 1000 < 500 ? 60 : 12050) + noise);
 }
 
-/* The late readings grow 256 stretches, 4,096 ticks apart at least, one reading of each in turn. */
-static uint32_t tick_of(uint32_t turn)
+/* Late readings grow `many` stretches, from the one numbered `first` on, by one reading of each in turn: each stretch by its ticks from `from` on, with the
+ * values of the numbers from `value` on; far from its stretch's reading before, by turns below and above all others, where `apart` is set. */
+typedef struct {
+    uint32_t first, many, from, value;
+    int apart;
+} stretches;
+
+/* All of them: 4,096 ticks apart at least. */
+static const stretches all = {.many = NDZ_MOST_GAPS};
+
+static uint32_t tick_of(const stretches *grown, uint32_t turn)
 {
-    return turn % 256 * 65536 + turn / 256;
+    return (grown->first + turn % grown->many) * 65536 + grown->from + turn / grown->many;
+}
+
+static int32_t value_of(const stretches *grown, uint32_t turn)
+{
+    int32_t away = turn / grown->many % 2 ? 30000 : -30000;
+    return value_at(grown->value + turn) + (grown->apart ? away : 0);
 }
 
 static double feed_next(next_call call, ndz_state *state, int64_t *room, size_t numbers, uint32_t readings)
@@ -54,11 +74,11 @@ static double feed_next(next_call call, ndz_state *state, int64_t *room, size_t 
     return now() - begun;
 }
 
-static double feed_late(late_call call, ndz_state *state, int64_t *room, size_t numbers, uint32_t readings)
+static double feed_late(late_call call, ndz_state *state, int64_t *room, size_t numbers, const stretches *grown, uint32_t readings)
 {
     double begun = now();
     for (uint32_t i = 0; i < readings; i++) {
-        ndz_answer a = call(*state, room, numbers, tick_of(i), value_at(i));
+        ndz_answer a = call(*state, room, numbers, tick_of(grown, i), value_of(grown, i));
         if (a.refusal)
             fail("a late reading is refused");
         *state = a.state;
@@ -153,8 +173,8 @@ static void readings(ndz_settings settings, uint32_t count, int unchecked)
     double of_library, of_plain;
     plain_checks = 1;
     if (late) {
-        of_library = feed_late(ndz_late, &library, library_room, numbers, count);
-        of_plain = feed_late(plain_late, &plain, plain_room, numbers, count);
+        of_library = feed_late(ndz_late, &library, library_room, numbers, &all, count);
+        of_plain = feed_late(plain_late, &plain, plain_room, numbers, &all, count);
     } else {
         of_library = feed_next(ndz_next, &library, library_room, numbers, count);
         of_plain = feed_next(plain_next, &plain, plain_room, numbers, count);
@@ -168,10 +188,39 @@ static void readings(ndz_settings settings, uint32_t count, int unchecked)
     double check = check_only(&library, library_room, numbers, count);
     plain = plain_open(settings, plain_room, numbers).state;
     plain_checks = 0;
-    of_plain = late ? feed_late(plain_late, &plain, plain_room, numbers, count) : feed_next(plain_next, &plain, plain_room, numbers, count);
+    of_plain = late ? feed_late(plain_late, &plain, plain_room, numbers, &all, count) : feed_next(plain_next, &plain, plain_room, numbers, count);
     same(&library, &plain, numbers);
     snprintf(what, sizeof what, "the same without the check");
     line(what, count, of_library - check, of_plain);
+}
+
+/* The most buckets that there can be, of 100,096 readings. */
+static void make_full(void)
+{
+    full = ndz_open(most, full_room, NUMBERS).state;
+    feed_late(ndz_late, &full, full_room, NUMBERS, &all, GROWN * all.many);
+    if (full.used != NDZ_MOST_BUCKETS)
+        fail("the table is not full");
+}
+
+/* Eight stretches go on growing, in bursts that each begin with the full table and have other values. A new bucket is nearly always merged with the one before
+ * it; where it is far from that, two others are merged: behind it, or near the end of the table before it. */
+static void bursts(const char *where, uint32_t first, int apart, uint32_t count)
+{
+    stretches grown = {.first = first, .many = 8, .from = GROWN, .apart = apart};
+    double of_library = 0, of_plain = 0;
+    plain_checks = 1;
+    for (; grown.value < count; grown.value += BURST) {
+        ndz_state library = full, plain = full;
+        memcpy(library_room, full_room, sizeof full_room);
+        memcpy(plain_room, full_room, sizeof full_room);
+        of_library += feed_late(ndz_late, &library, library_room, NUMBERS, &grown, BURST);
+        of_plain += feed_late(plain_late, &plain, plain_room, NUMBERS, &grown, BURST);
+        same(&library, &plain, NUMBERS);
+    }
+    char what[80];
+    snprintf(what, sizeof what, "late %s%s", where, apart ? ", merged elsewhere" : "");
+    line(what, grown.value, of_library, of_plain);
 }
 
 static void same_replayed(const ndz_replayed *a, const ndz_replayed *b, size_t numbers)
@@ -214,9 +263,8 @@ static void recordings(ndz_settings settings, uint32_t frames)
 static void files(uint32_t turns)
 {
     size_t numbers = NUMBERS;
-    ndz_settings settings = {.kind = NDZ_LATE, .size = NDZ_MOST_STEPS, .gaps = NDZ_MOST_GAPS};
-    ndz_state state = ndz_open(settings, library_room, numbers).state;
-    feed_late(ndz_late, &state, library_room, numbers, 100000);
+    ndz_state state = full;
+    memcpy(library_room, full_room, sizeof full_room);
     uint8_t mine[NDZ_RECORD_BYTES * NDZ_MOST_BUCKETS], other[NDZ_RECORD_BYTES * NDZ_MOST_BUCKETS];
     memset(mine, 0, sizeof mine);
     memset(other, 0, sizeof other);
@@ -238,12 +286,12 @@ static void files(uint32_t turns)
     size_t bytes = NDZ_RECORD_BYTES * state.used;
     begun = now();
     for (uint32_t i = 0; i < turns; i++)
-        if (ndz_load(settings, mine, bytes, library_room, numbers).refusal)
+        if (ndz_load(most, mine, bytes, library_room, numbers).refusal)
             fail("load");
     of_library = now() - begun;
     begun = now();
     for (uint32_t i = 0; i < turns; i++)
-        if (plain_load(settings, mine, bytes, plain_room, numbers).refusal)
+        if (plain_load(most, mine, bytes, plain_room, numbers).refusal)
             fail("plain load");
     of_plain = now() - begun;
     if (memcmp(library_room, plain_room, sizeof plain_room) != 0)
@@ -257,13 +305,19 @@ int main(int argc, char **argv)
     uint32_t count = argc > 1 ? (uint32_t)strtoul(argv[1], NULL, 10) : 2000000;
     printf("| call | library, ns | plain C, ns | ratio |\n|---|---|---|---|\n");
     readings((ndz_settings){.kind = NDZ_IN_ORDER, .size = NDZ_DEFAULT_STEPS}, count, 1);
-    readings((ndz_settings){.kind = NDZ_LATE, .size = NDZ_MOST_STEPS, .gaps = NDZ_MOST_GAPS}, count, 1);
+    readings(most, count, 1);
+    make_full();
+    for (int apart = 0; apart < 2; apart++) {
+        bursts("near the start", 0, apart, count / 10);
+        bursts("in the middle", 124, apart, count / 10);
+        bursts("near the end", 248, apart, count / 10);
+    }
     static const uint64_t sizes[] = {1, 4, 16, 64, 256};
     for (int i = 0; i < 5; i++)
         readings((ndz_settings){.kind = NDZ_IN_ORDER, .size = sizes[i]}, count / 10, 0);
     for (uint64_t base = 63; base <= 65; base++)
         readings((ndz_settings){.kind = NDZ_IN_ORDER, .size = base, .by = NDZ_BY_BASE}, count / 10, 0);
     recordings((ndz_settings){.kind = NDZ_LATE, .size = NDZ_DEFAULT_STEPS, .gaps = 16}, count / 2);
-    files(count / 100);
+    files(count / 100 + 1);
     return 0;
 }

@@ -4,13 +4,15 @@ ghost use lib.ListN.{length};
 ghost use Rattle.rule.specs.Room.{laid, slots, tableOf};
 ghost use Rattle.rule.specs.Table.{accept, needed, settle};
 ghost use Rattle.rooms.specs.Steps.{Ready, Settling};
+use merges::insert_merged;
+use merges::merge;
 use moves::insert;
-use moves::merge;
 use rule::Bucket;
 use rule::Settings;
 use rule::State;
+use scan::cheapest;
+use scan::cheapest_with;
 use settings::limit;
-use slots::cheapest;
 
 // While the buckets are more than the limit, the cheapest neighbours are merged. Answers how many buckets are left; the slots freed are cleared.
 pub(crate) fn settle(s: Settings, runs: usize, room: &mut [i64], used: usize) -> usize
@@ -27,7 +29,8 @@ pub(crate) fn settle(s: Settings, runs: usize, room: &mut [i64], used: usize) ->
     left
 }
 
-// What an accepted reading does to the room: it goes to its place, then the cheapest neighbours are merged while the buckets are more than the limit. Answers how many buckets there are then.
+// What an accepted reading does to the room: it goes to its place, and the cheapest neighbours are merged while the buckets are more than the limit; the first merge is made on the way in.
+// Answers how many buckets there are then.
 pub fn accept(s: State, room: &mut [i64], at: usize, runs: usize, tick: u32, value: i32) -> usize
     requires { ⌜ Ready s (now room) at runs tick value ⌝ }
     ensures { λ r. ⌜ (r ≡ length (accept (s .settings) (tableOf s (now (room .entry))) tick value)) × (now (room .exit) ≡ laid (needed (s .settings)) (accept (s .settings) (tableOf s (now (room .entry))) tick value) (now (room .entry))) ⌝ }
@@ -38,7 +41,13 @@ pub fn accept(s: State, room: &mut [i64], at: usize, runs: usize, tick: u32, val
         least: value,
         largest: value,
     };
-    insert(&mut *room, s.used, at, b);
     let settings = s.settings;
-    settle(settings, runs, &mut *room, s.used + 1)
+    let used = s.used;
+    if used < limit(settings, runs) {
+        insert(&mut *room, used, at, b);
+        return used + 1;
+    }
+    let place = cheapest_with(&*room, used, at, b);
+    insert_merged(&mut *room, used, at, b, place);
+    settle(settings, runs, &mut *room, used)
 }

@@ -8,20 +8,18 @@ use native.Mathlib.Nat.{add-zero, zero-add}
 use native.Mathlib.Numerals.{add-one, add-two, add-three}
 use lib.IntN.{ℤ, pos}
 use lib.ListN.{length, take, drop, length-append, length-drop, length-replicate, length-take, replicate-append-replicate, take-append-drop}
-use lib.Seq.{drop-at, drop-cons, drop-drop, getD-append-add, length-take-le, take-append-le, take-at, take-take}
+use lib.Seq.{drop-at, drop-cons, drop-drop, getD-append-add, take-at}
 use lib.Signed.{leZ}
 use Rattle.rule.specs.declared.Bucket.{Bucket}
 use Rattle.rule.specs.Numbers.{slotWidth}
 use Rattle.rule.specs.Room.{allZero, field, flat, laid, numbers, ranged, slot, slotRanged, slots, zeros}
-use Rattle.rule.specs.Bucket.{union}
 use Rattle.rule.specs.Rules.{equal}
 use Rattle.rule.proofs.Ruling.{and-left, and-right}
-use Rattle.rule.specs.Table.{Table, mergeAt, readings}
-use Rattle.rule.proofs.Merging.{merged-at}
+use Rattle.rule.specs.Table.{Table}
 use Rattle.rule.proofs.Whole.{whole}
-use Rattle.rooms.specs.Slots.{Filled, put}
+use Rattle.rooms.specs.Slots.{Filled, put, putAt}
 use Rattle.rooms.proofs.Reading.{ranges, unsigned-pos}
-use Rattle.rooms.proofs.Shifting.{between, between-at, drop-both, drop-past, lowered, lowered-parts, raised}
+use Rattle.rooms.proofs.Shifting.{drop-both, drop-past}
 
 -- a slot more in front: every slot stands one place later
 module _ (front l : List ℤ) (wide : length front ≡ slotWidth) where
@@ -113,6 +111,20 @@ slots-split l i j zero n k e f =
 slots-split l i j (suc m) n zero e f = absurd (omega arith)
 slots-split l i j (suc m) n (suc k) e f = ap (λ (t : Table). slot l i ∷ t) (slots-split l (suc i) j m n k (omega arith) (omega arith))
 
+pub slots-last : (l : List ℤ) (h i : ℕ) → suc h ≡ i → slots l 0 i ≡ slots l 0 h ++ (slot l h ∷ [])
+unfolding slots
+slots-last l h i e = slots-split l 0 h h 1 i (omega arith) (omega arith)
+
+-- the buckets of n slots with a bucket put at a place
+pub slots-with : (l : List ℤ) (n at : ℕ) (b : Bucket) → at ≤ n → putAt at b (slots l 0 n) ≡ slots l 0 at ++ (b ∷ slots l at (n - at))
+slots-with l n at b h =
+    let long = length-slots l 0 at in
+    ap (putAt at b) (slots-split l 0 at at (n - at) n (omega arith) (omega arith)) ∙ rw (take-at (slots l 0 at) (slots l at (n - at)) at long, drop-at (slots l 0 at) (slots l at (n - at)) at long)
+
+pub slots-end : (l : List ℤ) (n : ℕ) (b : Bucket) → putAt n b (slots l 0 n) ≡ slots l 0 n ++ (b ∷ [])
+unfolding slots
+slots-end l n b = let none : n - n ≡ 0 = omega arith in slots-with l n n b (omega arith) ∙ rw none
+
 -- slots that hold a table in two parts
 pub filled-parts : (l : List ℤ) (n : ℕ) (x y : Table) → Filled l n → slots l 0 n ≡ x ++ y → l ≡ flat x ++ (flat y ++ drop (slotWidth * n) l)
 filled-parts l n x y f e =
@@ -125,13 +137,6 @@ unfolding put
 put-flat x a b r i e =
     let here : length (flat x) ≡ slotWidth * i = length-flat x ∙ omega arith in
     rw (take-at (flat x) (numbers a ++ r) (slotWidth * i) here, drop-both (flat x) (numbers a) r (slotWidth * suc i) (omega arith))
-
--- over the last slot of a front
-put-front : (l r : List ℤ) (i : ℕ) (b : Bucket) → slotWidth * i + slotWidth ≤ length l → put (take (slotWidth * i + slotWidth) l ++ r) i b ≡ take (slotWidth * i) l ++ (numbers b ++ r)
-unfolding put
-put-front l r i b h =
-    let long : length (take (slotWidth * i + slotWidth) l) ≡ slotWidth * suc i = length-take-le (slotWidth * i + slotWidth) l h ∙ omega arith in
-    rw (drop-at (take (slotWidth * i + slotWidth) l) r (slotWidth * suc i) long, take-append-le (slotWidth * i) (take (slotWidth * i + slotWidth) l) r (omega arith), take-take (slotWidth * i) (slotWidth * i + slotWidth) l (omega arith))
 
 -- ---- what is laid
 
@@ -198,61 +203,3 @@ pub laid-within : (m n : ℕ) (t u : Table) (l : List ℤ) → length t ≤ m �
 unfolding laid
 laid-within m n t u l h e k =
     laid-joined m n t (laid n u l) l h k (rw (← e) (drop-at (flat u) (zeros (slotWidth * (n - length u)) ++ drop (slotWidth * n) l) (slotWidth * length u) (length-flat u)))
-
--- ---- a slot opened or closed
-
-pub inserted : (l : List ℤ) (used at : ℕ) (b : Bucket) → Filled l used → at ≤ used → slotWidth * suc used ≤ length l
-    → put (raised l slotWidth (slotWidth * at) (slotWidth * used)) at b ≡ laid (suc used) (take at (slots l 0 used) ++ (b ∷ drop at (slots l 0 used))) l
-unfolding flat
-inserted l used at b f h k =
-    let t = slots l 0 used in
-    let x = take at t in
-    let y = drop at t in
-    let r = drop (slotWidth * used) l in
-    let stands : l ≡ flat x ++ (flat y ++ r) = filled-parts l used x y f (sym (take-append-drop at t)) in
-    let before : length x ≡ at = length-take-le at t (omega (arith, length-slots l 0 used)) in
-    let behind : length y ≡ used - at = length-drop at t ∙ omega (arith, length-slots l 0 used) in
-    let front : length (flat x) ≡ slotWidth * at = length-flat x ∙ omega arith in
-    let first : take (slotWidth * at) l ≡ flat x = ap (take (slotWidth * at)) stands ∙ take-at (flat x) (flat y ++ r) (slotWidth * at) front in
-    let last : between l (slotWidth * at) (slotWidth * used) ≡ flat y =
-    ap (λ (m : List ℤ). between m (slotWidth * at) (slotWidth * used)) stands ∙ between-at (flat x) (flat y) r (slotWidth * at) (slotWidth * used) front (omega (arith, length-flat y)) in
-    let more : length (x ++ (b ∷ y)) ≡ suc used = length-append x (b ∷ y) ∙ omega arith in
-    let past : slotWidth * suc used ≡ slotWidth * used + slotWidth = omega arith in
-    put-front l (between l (slotWidth * at) (slotWidth * used) ++ drop (slotWidth * used + slotWidth) l) at b (omega arith)
-    ∙ rw (first, last, laid-over (suc used) (x ++ (b ∷ y)) l more, flat-append x (b ∷ y), past) (sym (append-assoc (flat x) (numbers b ++ flat y) (drop (slotWidth * used + slotWidth) l)))
-
-readings-pair : (x y : Table) (a b : Bucket) → a .count + b .count ≤ readings (x ++ (a ∷ b ∷ y))
-unfolding readings
-readings-pair [] y a b = omega arith
-readings-pair (c ∷ x) y a b = omega (arith, readings-pair x y a b)
-
--- the buckets in slots `at` and `at + 1`
-module _ (l : List ℤ) (used at : ℕ) (h : at + 1 < used) where
-  pair-stands : slots l 0 used ≡ slots l 0 at ++ (slot l at ∷ slot l (at + 1) ∷ slots l (at + 2) (used - (at + 2)))
-  unfolding slots
-  pair-stands =
-      let one : at + 1 ≡ suc at = omega arith in
-      let two : at + 2 ≡ suc (suc at) = omega arith in
-      slots-split l 0 at at (suc (suc (used - (at + 2)))) used (omega arith) (omega arith) ∙ rw (one, two)
-
-  pub pair-counts : slot l at .count + slot l (at + 1) .count ≤ readings (slots l 0 used)
-  pair-counts = rw pair-stands (readings-pair (slots l 0 at) (slots l (at + 2) (used - (at + 2))) (slot l at) (slot l (at + 1)))
-
-  pub merged : Filled l used → lowered (put l at (union (slot l at) (slot l (at + 1)))) slotWidth (slotWidth * at + slotWidth) (slotWidth * used) ≡ laid used (mergeAt at (slots l 0 used)) l
-  unfolding flat laid
-  merged f =
-      let x = slots l 0 at in
-      let y = slots l (at + 2) (used - (at + 2)) in
-      let a = slot l at in
-      let b = slot l (at + 1) in
-      let u = union a b in
-      let r = drop (slotWidth * used) l in
-      let behind = numbers b ++ (flat y ++ r) in
-      let written : put l at u ≡ (flat x ++ numbers u) ++ behind =
-      ap (λ (m : List ℤ). put m at u) (filled-parts l used x (a ∷ b ∷ y) f pair-stands) ∙ put-flat x a u behind at (length-slots l 0 at) ∙ sym (append-assoc (flat x) (numbers u) behind) in
-      let front : length (flat x ++ numbers u) ≡ slotWidth * at + slotWidth = length-append (flat x) (numbers u) ∙ omega (arith, length-flat x, length-slots l 0 at) in
-      let last : slotWidth * at + slotWidth + slotWidth + length (flat y) ≡ slotWidth * used = omega (arith, length-flat y, length-slots l (at + 2) (used - (at + 2))) in
-      let table : mergeAt at (slots l 0 used) ≡ x ++ (u ∷ y) =
-      ap (mergeAt at) pair-stands ∙ ap (λ (n : ℕ). mergeAt n (x ++ (a ∷ b ∷ y))) (sym (length-slots l 0 at)) ∙ merged-at x a b y in
-      let fewer : slotWidth * (used - length (x ++ (u ∷ y))) ≡ slotWidth = omega (arith, length-append x (u ∷ y), length-slots l 0 at, length-slots l (at + 2) (used - (at + 2))) in
-      rw (written, table, fewer, flat-append x (u ∷ y)) (lowered-parts (flat x ++ numbers u) (numbers b) (flat y) r slotWidth (slotWidth * at + slotWidth) (slotWidth * used) front refl last ∙ simp append-assoc)

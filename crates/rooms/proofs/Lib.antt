@@ -4,6 +4,7 @@ pub mod Reading
 pub mod Shifting
 pub mod Laying
 pub mod Scoring
+pub mod Moving
 pub mod Fitting
 pub mod Merges
 pub mod Placing

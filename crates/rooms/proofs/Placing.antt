@@ -19,15 +19,14 @@ use Rattle.rule.specs.declared.Bucket.{Bucket}
 use Rattle.rule.specs.Bucket.{end}
 use Rattle.rule.specs.Calls.{isHeld}
 use Rattle.rule.specs.Numbers.{slotWidth, word}
-use Rattle.rule.specs.Room.{ranged, slot, slotRanged, slots}
+use Rattle.rule.specs.Room.{slot, slotRanged, slots}
 use Rattle.rule.specs.Table.{Ordered, Table, holders, holding, holds, insert, runs, single}
 use Rattle.rule.proofs.Whole.{whole, by-test, cond-ind}
 use Rattle.rule.proofs.Tables.{before-none, ends-before, eqb-counts, held-none, held-within, heldBefore, holds-counts, insert-runs, leb-counts, one}
 use Rattle.rooms.specs.Slots.{Filled}
 use Rattle.rooms.specs.Steps.{Placed, position}
-use Rattle.rule.proofs.Ruling.{and-left, and-right}
 use Rattle.rooms.proofs.Laying.{length-slots}
-use Rattle.rooms.proofs.Reading.{filled, ranges, unsigned-held, unsigned-pos}
+use Rattle.rooms.proofs.Reading.{filled, filled-front, ranges, unsigned-held, unsigned-pos}
 use Rattle.rooms.proofs.Scoring.{slots-next}
 
 -- ---- who holds a tick
@@ -204,18 +203,10 @@ module _ {l : List ℤ} {n at tick : ℕ} (w : Placed l n at tick) where
       → boolByte (ltb 0 at && eqb (end (slot l (at - 1))) tick) + boolByte (ltb at n && eqb (slot l at .start) (suc tick)) + runs (insert (single tick v) (slots l 0 n)) ≡ suc (runs (slots l 0 n))
   slot-joins free v = simp byte-one (rw (← w .place, getD-slots l 0 n (at - 1) (at - 1) (omega arith), getD-slots l 0 n at at (omega arith), length-slots l 0 n) at (insert-joins tick v (slots l 0 n) (slot l (at - 1)) (slot l at) (w .ordered) free))
 
-ranged-front : (l : List ℤ) (i m n : ℕ) → m ≤ n → ranged l i n ≡ true → ranged l i m ≡ true
-unfolding ranged
-ranged-front l i zero n h e = refl
-ranged-front l i (suc m) zero h e = absurd (omega arith)
-ranged-front l i (suc m) (suc n) h e =
-    rw (and-left (slotRanged l i) (ranged l (suc i) n) e) (ranged-front l (suc i) m n (omega arith) (and-right (slotRanged l i) (ranged l (suc i) n) e))
-
 -- the slots before the place
 pub filled-before : {l : List ℤ} {n at tick : ℕ} → Placed l n at tick → Filled l at
 filled-before {l} {n} {at} {tick} w =
-    let within : at ≤ n = omega (arith, w .place, place-within tick (slots l 0 n), length-slots l 0 n) in
-    record { there = omega (arith, w .filled .there); ranges = ranged-front l 0 at n within (w .filled .ranges) }
+    filled-front (w .filled) (omega (arith, w .place, place-within tick (slots l 0 n), length-slots l 0 n))
 
 -- ---- the pass that finds the place
 

@@ -1,6 +1,6 @@
 -- What a slot whose numbers lie in their ranges gives the casts that read it, and what the four stores into a slot leave.
 use Prim.Native.Nat.{ℕ, zero, suc, _+_, _*_, _≤_, _<_}
-use mathlib.Core.Path.{_≡_, _∙_}
+use mathlib.Core.Path.{_≡_, refl, _∙_}
 use mathlib.Core.Bool.{true, _&&_}
 use mathlib.Core.List.{List, append-assoc}
 use native.Mathlib.Omega.{arith}
@@ -53,6 +53,17 @@ slot-in l i (suc n) (suc k) h e =
 -- what reading one of the filled slots asks
 pub filled : {l : List ℤ} {n : ℕ} → Filled l n → (i : ℕ) → i < n → (slotWidth * suc i ≤ length l) × (slotRanged l i ≡ true)
 filled {l} {n} f i h = (omega (arith, f .there), rw zero-add at (slot-in l 0 n i h (f .ranges)))
+
+ranged-front : (l : List ℤ) (i m n : ℕ) → m ≤ n → ranged l i n ≡ true → ranged l i m ≡ true
+unfolding ranged
+ranged-front l i zero n h e = refl
+ranged-front l i (suc m) zero h e = absurd (omega arith)
+ranged-front l i (suc m) (suc n) h e =
+    rw (and-left (slotRanged l i) (ranged l (suc i) n) e) (ranged-front l (suc i) m n (omega arith) (and-right (slotRanged l i) (ranged l (suc i) n) e))
+
+-- fewer slots
+pub filled-front : {l : List ℤ} {m n : ℕ} → Filled l n → m ≤ n → Filled l m
+filled-front {l} {m} {n} f h = record { there = omega (arith, f .there); ranges = ranged-front l 0 m n h (f .ranges) }
 
 -- an unsigned number read from 64 bits is itself, and may be cast to 32
 pub unsigned-held : (z : ℤ) → unsigned z ≡ true → toZ w64 (ofZ w64 z) ≡ z

@@ -1,11 +1,12 @@
 -- The loops that clear numbers and move them by one slot: what the list is at the start, after a turn and at the end.
 use Prim.Native.Nat.{ℕ, suc, _+_, _-_, _≤_, _<_}
 use mathlib.Core.Path.{_≡_, refl, sym, ap, _∙_}
-use mathlib.Core.List.{List, _∷_, _++_, append-assoc}
+use mathlib.Core.List.{List, _∷_, _++_, append-assoc, append-nil}
 use native.Mathlib.Omega.{arith}
 use lib.IntN.{ℤ, pos}
-use lib.ListN.{length, getD, take, drop, set, getD-replicate, length-append, length-drop, length-replicate, length-set, length-take, take-append-drop, List·getD-append}
+use lib.ListN.{length, getD, take, drop, set, getD-replicate, length-append, length-drop, length-replicate, length-set, length-take, List·getD-append}
 use lib.Seq.{append-snoc, drop-at, drop-append-add, drop-cons, drop-drop, getD-append-add, getD-drop, getD-take, length-paste-head, length-take-le, paste, paste-suc, paste-zero, set-at, take-at, take-length, take-suc}
+use borrow.Rule.Slice.PartMut.{midOf, putMid}
 use Rattle.rule.specs.Room.{zeros}
 
 -- a front put before what lies behind it changes nothing further on
@@ -67,81 +68,42 @@ pub cleared-step : {d r : List ℤ} {from to i : ℕ} → Copied d from to (zero
 unfolding zeros
 cleared-step {from = from} {to = to} q h = copied-step q (pos 0) h (sym (getD-replicate (to - from) (q .done) (pos 0) (pos 0) (omega arith)))
 
--- ---- the numbers up to `to` moved down by w places
+-- ---- the numbers behind the first w moved down by w places
 
-abbrev pub between : List ℤ → ℕ → ℕ → List ℤ
-between l from to = take (to - from) (drop from l)
+module _ (d : List ℤ) (w : ℕ) (h : w ≤ length d) where
+  pub lowered-start : Copied d 0 (length d - w) (drop w d) d 0
+  lowered-start = copied-start d (drop w d) 0 (length d - w) (simp length-drop (omega arith)) (omega arith)
 
--- the w numbers from `from` on gone, those behind them moved down, and zeros where they stood
-abbrev pub lowered : List ℤ → ℕ → ℕ → ℕ → List ℤ
-lowered l w from to = take from l ++ (between l (from + w) to ++ (zeros w ++ drop to l))
-
-module _ (d : List ℤ) (w from to : ℕ) (h : from + w ≤ to) (k : to ≤ length d) where
-  moved-until : from + length (between d (from + w) to) ≡ to - w
-  moved-until = simp (length-take, length-drop) (omega arith)
-
-  pub lowered-start : Copied d from (to - w) (between d (from + w) to) d from
-  lowered-start = copied-start d (between d (from + w) to) from (to - w) moved-until (omega arith)
-
-  pub lowered-step : {r : List ℤ} {i : ℕ} → Copied d from (to - w) (between d (from + w) to) r i → i + w < to → Copied d from (to - w) (between d (from + w) to) (set r i (getD r (i + w) (pos 0))) (i + 1)
+  pub lowered-step : {r : List ℤ} {i : ℕ} → Copied d 0 (length d - w) (drop w d) r i → i < length d - w → Copied d 0 (length d - w) (drop w d) (set r i (getD r (i + w) (pos 0))) (i + 1)
   lowered-step {r} {i} q g =
-      let there : i + w ≡ from + w + q .done = omega arith in
-      let left : q .done < to - (from + w) = omega arith in
-      copied-step q (getD r (i + w) (pos 0)) (omega arith)
-      (copied-ahead q w ∙ ap (λ (n : ℕ). getD d n (pos 0)) there ∙ sym (getD-take (to - (from + w)) (drop (from + w) d) (q .done) (pos 0) left ∙ getD-drop (from + w) d (q .done) (pos 0)))
+      let there : i + w ≡ w + q .done = omega arith in
+      copied-step q (getD r (i + w) (pos 0)) g (copied-ahead q w ∙ ap (λ (n : ℕ). getD d n (pos 0)) there ∙ sym (getD-drop w d (q .done) (pos 0)))
 
-  -- with the places that are left cleared
-  pub lowered-end : {r : List ℤ} {i : ℕ} → Copied d from (to - w) (between d (from + w) to) r i → to ≤ i + w → take i r ++ (zeros (to - i) ++ drop to r) ≡ lowered d w from to
-  lowered-end {r} {i} q g =
-      let last : i ≡ to - w = omega arith in
-      let front : List ℤ = take from d ++ between d (from + w) to in
-      let long : length front ≡ to - w = length-append (take from d) (between d (from + w) to) ∙ ap (λ (n : ℕ). n + length (between d (from + w) to)) (length-take-le from d (omega arith)) ∙ moved-until in
-      let stands : r ≡ front ++ drop (to - w) d = copied-end q (omega arith) ∙ sym (append-assoc (take from d) (between d (from + w) to) (drop (to - w) d)) in
-      let back : drop to r ≡ drop to d = rw stands (drop-past front d (to - w) to long (omega arith)) in
-      let gap : to - i ≡ w = omega arith in
-      rw (back, gap, last, stands, take-at front (drop (to - w) d) (to - w) long) (append-assoc (take from d) (between d (from + w) to) (zeros w ++ drop to d))
+  -- what stands in front of the last w
+  pub lowered-end : {r : List ℤ} {i : ℕ} → Copied d 0 (length d - w) (drop w d) r i → length d - w ≤ i → take (length d - w) r ≡ drop w d
+  lowered-end {r} {i} q g = rw (copied-end q g) (take-at (drop w d) (drop (length d - w) d) (length d - w) (length-drop w d))
 
--- ---- a list of which the parts are known
-
-pub drop-both : (p q r : List ℤ) (n : ℕ) → length p + length q ≡ n → drop n (p ++ (q ++ r)) ≡ r
-drop-both p q r n e = rw (← append-assoc p q r) (drop-at (p ++ q) r n (length-append p q ∙ e))
-
-pub between-at : (p q r : List ℤ) (from to : ℕ) → length p ≡ from → from + length q ≡ to → between (p ++ (q ++ r)) from to ≡ q
-between-at p q r from to e f = rw (drop-at p (q ++ r) from e) (take-at q r (to - from) (omega arith))
-
-pub lowered-parts : (p s q r : List ℤ) (w from to : ℕ) → length p ≡ from → length s ≡ w → from + w + length q ≡ to
-    → lowered (p ++ (s ++ (q ++ r))) w from to ≡ p ++ (q ++ (zeros w ++ r))
-lowered-parts p s q r w from to e f g =
-    let both : length (p ++ s) ≡ from + w = length-append p s ∙ omega arith in
-    let middle : between (p ++ (s ++ (q ++ r))) (from + w) to ≡ q = rw (← append-assoc p s (q ++ r)) (between-at (p ++ s) q r (from + w) to both g) in
-    let back : drop to (p ++ (s ++ (q ++ r))) ≡ r = rw (← append-assoc p s (q ++ r)) (drop-both (p ++ s) q r to (omega arith)) in
-    rw (middle, back, take-at p (s ++ (q ++ r)) from e)
-
--- ---- the numbers from `from` up to `to` moved up by w places, the last first
-
--- those in front of them are as they were
-abbrev pub raised : List ℤ → ℕ → ℕ → ℕ → List ℤ
-raised l w from to = take (from + w) l ++ (between l from to ++ drop (to + w) l)
+-- ---- the numbers before the last w moved up by w places, the last first
 
 -- those from i on are moved
-pub record Raised (d : List ℤ) (w from to : ℕ) (r : List ℤ) (i : ℕ) : Type 0 where
+pub record Raised (d : List ℤ) (w : ℕ) (r : List ℤ) (i : ℕ) : Type 0 where
   pub done : ℕ
-  pub reached : i + done ≡ to
-  pub above : from ≤ i
-  pub inside : to + w ≤ length d
+  pub reached : i + w + done ≡ length d
   pub same : length r ≡ length d
-  pub stands : r ≡ take (i + w) d ++ (take done (drop i d) ++ drop (to + w) d)
+  pub stands : r ≡ take (i + w) d ++ take done (drop i d)
 
-pub raised-start : (d : List ℤ) (w from to : ℕ) → from ≤ to → to + w ≤ length d → Raised d w from to d to
-raised-start d w from to h k = record { done = 0; reached = omega arith; above = h; inside = k; same = refl; stands = sym (take-append-drop (to + w) d) }
+pub raised-start : (d : List ℤ) (w : ℕ) → w ≤ length d → Raised d w d (length d - w)
+raised-start d w h =
+    let all : length d - w + w ≡ length d = omega arith in
+    record { done = 0; reached = omega arith; same = refl; stands = rw all (sym (append-nil (take (length d) d) ∙ take-length d)) }
 
-module _ {d r : List ℤ} {w from to i : ℕ} (q : Raised d w from to r i) where
-  pub raised-step : (j : ℕ) → from ≤ j → suc j ≡ i → Raised d w from to (set r (j + w) (getD r j (pos 0))) j
-  raised-step j h e =
+module _ {d r : List ℤ} {w i : ℕ} (q : Raised d w r i) where
+  pub raised-step : (j : ℕ) → suc j ≡ i → Raised d w (set r (j + w) (getD r j (pos 0))) j
+  raised-step j e =
       let below : j + w < length d = omega arith in
       let here : j < length d = omega arith in
       let next : i + w ≡ suc (j + w) = omega arith in
-      let rest : List ℤ = take (q .done) (drop (suc j) d) ++ drop (to + w) d in
+      let rest : List ℤ = take (q .done) (drop (suc j) d) in
       let before : r ≡ take (suc (j + w)) d ++ rest = q .stands ∙ rw (next, e) in
       let stands : r ≡ take (j + w) d ++ getD d (j + w) (pos 0) ∷ rest = before ∙ rw (take-suc d (j + w) (pos 0) below) (append-snoc (take (j + w) d) (getD d (j + w) (pos 0)) rest) in
       let value : getD r j (pos 0) ≡ getD d j (pos 0) =
@@ -149,14 +111,41 @@ module _ {d r : List ℤ} {w from to i : ℕ} (q : Raised d w from to r i) where
       record {
         done = suc (q .done);
         reached = omega arith;
-        above = h;
-        inside = q .inside;
         same = length-set r (j + w) (getD r j (pos 0)) ∙ q .same;
         stands = ap (λ (v : ℤ). set r (j + w) v) value ∙ ap (λ (l : List ℤ). set l (j + w) (getD d j (pos 0))) stands ∙ set-at (take (j + w) d) (getD d (j + w) (pos 0)) rest (getD d j (pos 0)) (j + w) (length-take-le (j + w) d (omega arith)) ∙ rw (drop-cons d j (pos 0) here);
       }
 
-  pub raised-end : i ≤ from → r ≡ raised d w from to
-  raised-end h =
-      let first : i ≡ from = omega arith in
-      let all : q .done ≡ to - from = omega arith in
-      q .stands ∙ rw (all, first)
+  -- what stands behind the first w
+  pub raised-end : w ≤ length d → i ≤ 0 → drop w r ≡ take (length d - w) d
+  raised-end h g =
+      let first : i ≡ 0 = omega arith in
+      let all : q .done ≡ length d - w = omega arith in
+      let front : 0 + w ≡ w = omega arith in
+      rw (q .stands, all, first, front) (drop-at (take w d) (take (length d - w) d) w (length-take-le w d h))
+
+-- ---- a list of which the parts are known
+
+pub drop-both : (p q r : List ℤ) (n : ℕ) → length p + length q ≡ n → drop n (p ++ (q ++ r)) ≡ r
+drop-both p q r n e = rw (← append-assoc p q r) (drop-at (p ++ q) r n (length-append p q ∙ e))
+
+-- the k numbers from the one at `from` on are lent, and come back as v
+pub lent-part : (p q r : List ℤ) (from k : ℕ) → length p ≡ from → length q ≡ k → midOf from k (p ++ (q ++ r)) ≡ q
+lent-part p q r from k e f = rw (drop-at p (q ++ r) from e) (take-at q r k f)
+
+pub put-back : (p q r v : List ℤ) (from k : ℕ) → length p ≡ from → length q ≡ k → putMid from k (p ++ (q ++ r)) v ≡ p ++ (v ++ r)
+put-back p q r v from k e f = rw (take-at p (q ++ r) from e, drop-at p (q ++ r) from e, drop-at q r k f)
+
+-- the first w of the part gone, v behind the others
+pub lowered-part : (p s q r v : List ℤ) (w from k : ℕ) → length p ≡ from → length s ≡ w → w + length q ≡ k
+    → putMid from k (p ++ ((s ++ q) ++ r)) (drop w (midOf from k (p ++ ((s ++ q) ++ r))) ++ v) ≡ p ++ ((q ++ v) ++ r)
+lowered-part p s q r v w from k e f g =
+    let long : length (s ++ q) ≡ k = length-append s q ∙ omega arith in
+    rw (lent-part p (s ++ q) r from k e long, drop-at s q w f) (put-back p (s ++ q) r (q ++ v) from k e long)
+
+-- the last w of the part gone, v before the others
+pub raised-part : (p q s r v : List ℤ) (w from k : ℕ) → length p ≡ from → length s ≡ w → length q + w ≡ k
+    → putMid from k (p ++ ((q ++ s) ++ r)) (v ++ take (length (midOf from k (p ++ ((q ++ s) ++ r))) - w) (midOf from k (p ++ ((q ++ s) ++ r)))) ≡ p ++ ((v ++ q) ++ r)
+raised-part p q s r v w from k e f g =
+    let long : length (q ++ s) ≡ k = length-append q s ∙ omega arith in
+    let left : length q ≡ length (q ++ s) - w = omega (arith, length-append q s) in
+    rw (lent-part p (q ++ s) r from k e long, take-at q s (length (q ++ s) - w) left) (put-back p (q ++ s) r (v ++ q) from k e long)

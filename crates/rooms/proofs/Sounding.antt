@@ -1,6 +1,6 @@
 -- What soundness says, fact by fact, and that a trace whose buckets were inserted and settled is sound again.
 use Prim.Native.Nat.{ℕ, zero, suc, _+_, _*_, _-_, _≤_, _<_, min}
-use mathlib.Core.Path.{_≡_, refl, sym, ap, _∙_, subst}
+use mathlib.Core.Path.{_≡_, refl, sym, ap}
 use mathlib.Core.Bool.{Bool, true}
 use mathlib.Core.List.{List, [], _∷_, _++_}
 use native.Mathlib.Omega.{arith}
@@ -21,9 +21,8 @@ use Rattle.rule.specs.Rules.{equal, ruled}
 use Rattle.rule.specs.Table.{Table, Ordered, cheapest, limit, limitOver, merge, mergeOf, needed, readings, runs, settle, Choice, nothing, pair}
 use Rattle.rule.proofs.Merging.{Enough, merge-readings, settle-keeps, settle-length, settle-runs}
 use Rattle.rule.proofs.Ruling.{Ruled, and-left, and-right, facts-ruled, in-order-runs, ordered-readings, ruled-end, ruled-facts, ruled-ordered, settle-ruled}
-use Rattle.rooms.proofs.Bounds.{bounds, limit-gaps, needed-small}
+use Rattle.rooms.proofs.Bounds.{bounds, limit-gaps}
 use Rattle.rooms.specs.Slots.{Filled}
-use Rattle.rooms.specs.Steps.{Settling}
 use Rattle.rule.proofs.Fitting.{Fitted, fitted-merge}
 use Rattle.rooms.proofs.Fitting.{filled-laid}
 use Rattle.rooms.proofs.Laying.{laid-more, length-flat, length-laid, slots-laid}
@@ -99,7 +98,12 @@ module _ (s : State) (l : List ℤ) (f : Facts s l) where
   pub used-needed : suc (s .used) ≤ needed (s .settings)
   used-needed = omega (arith, f .few, limit-gaps (s .settings .kind) (s .settings .base) (s .settings .gaps) (s .runs) (f .allowed))
 
-  -- with the unused slots zeros, clearing one of them is clearing all
+  -- with the unused slots zeros, clearing none of them is clearing all
+  pub laid-used : (w : Table) → length w ≤ s .used → laid (s .used) w l ≡ laid (needed (s .settings)) w l
+  unfolding restZero
+  laid-used w h = laid-more (s .used) (needed (s .settings)) w l h (omega (arith, used-needed)) (f .long) (f .rest)
+
+  -- and so is clearing one
   pub laid-needed : (w : Table) → length w ≤ suc (s .used) → laid (suc (s .used)) w l ≡ laid (needed (s .settings)) w l
   unfolding restZero
   laid-needed w h =
@@ -177,17 +181,6 @@ module _ (s : State) (l : List ℤ) (f : Facts s l) (u : Table) (longer : length
 
   pub counted : readings u < word
   counted = omega (arith, ordered-readings 0 u (ruled-ordered (s .settings .kind) 0 u rules), ruled-end (s .settings .kind) 0 u (omega arith) rules)
-
-  pub settling : Settling (s .settings) (runs u) (laid (suc (s .used)) u l) (suc (s .used))
-  settling =
-      let same : slots (laid (suc (s .used)) u l) 0 (suc (s .used)) ≡ u = ap (slots (laid (suc (s .used)) u l) 0) (sym longer) ∙ slots-laid (suc (s .used)) u l in
-      record {
-        filled = subst (Filled (laid (suc (s .used)) u l)) longer (filled-laid (suc (s .used)) u l (omega arith) (omega (arith, f .long, used-needed s l f)) fitted);
-        count = rw same counted;
-        truth = rw same;
-        enough = enough;
-        small = omega (arith, needed-small (s .settings) (f .base-good) (f .gaps-good), limit-gaps (s .settings .kind) (s .settings .base) (s .settings .gaps) (runs u) allowed);
-      }
 
   -- what a sound state says of the settled buckets, laid
   pub settled-facts : Facts (stateOf (s .settings) (settle (s .settings) u)) (laid (needed (s .settings)) (settle (s .settings) u) l)

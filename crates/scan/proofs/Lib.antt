@@ -1,0 +1,4 @@
+-- Laws that belong to no one function.
+pub mod Keeping
+pub mod Scanning
+pub mod OneOutcome

@@ -1,0 +1,2 @@
+-- What a pass over neighbours has met.
+pub mod Best

@@ -26,15 +26,15 @@ insert-merged-spec =
     tie.close
     (tie.spec
     (λ c. search needs)  -- add-if1
-    (λ c κs. search needs)  -- merge-before-requires
+    (λ c κs. (c .before .before .pre .0, c .before .if1 .taken))  -- merge-before-requires
     (λ c. search needs)  -- same-length
-    (λ c. search needs)  -- returns
+    (λ c. c .before .merge-before .ensures)  -- returns
     merge-left-requires
     (λ c. search needs)  -- same-length-2
     returns-2
-    (λ c κs. search needs)  -- merge-right-requires
+    (λ c κs. (c .before .before .before .before .pre .0, omega arith))  -- merge-right-requires
     (λ c. search needs)  -- same-length-3
     returns-3
-    (λ c κs. search needs)  -- merge-after-requires
+    (λ c κs. let s = c .before .before .before .before in (s .pre .0, (omega arith, s .pre .1)))  -- merge-after-requires
     (λ c. search needs)  -- same-length-4
-    (λ c. search needs))  -- returns-4
+    (λ c. c .before .merge-after .ensures))  -- returns-4

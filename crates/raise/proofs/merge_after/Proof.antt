@@ -1,12 +1,12 @@
--- `merges::merge_after` meets its contract.
+-- `raise::merge_after` meets its contract.
 use Prim.Native.Nat.{_-_}
 use mathlib.Core.Path.{refl}
 use native.Mathlib.Omega.{arith}
 use borrow.Author.Needs.{needs}
 use Rattle.rooms.proofs.Moving.{merged-after, pair-counts}
 use Rattle.rooms.proofs.Reading.{filled}
-use Rattle.merges.proofs.merge_after.Statement.{statement}
-use Rattle.merges.proofs.merge_after.Tie as tie
+use Rattle.raise.proofs.merge_after.Statement.{statement}
+use Rattle.raise.proofs.merge_after.Tie as tie
 
 union-requires : tie.Need-union-requires
 union-requires c κs =

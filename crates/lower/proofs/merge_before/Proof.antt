@@ -1,12 +1,12 @@
--- `merges::merge_before` meets its contract.
+-- `lower::merge_before` meets its contract.
 use Prim.Native.Nat.{_+_}
 use mathlib.Core.Path.{refl}
 use native.Mathlib.Omega.{arith}
 use borrow.Author.Needs.{needs}
 use Rattle.rooms.proofs.Moving.{merged-before, pair-counts}
 use Rattle.rooms.proofs.Reading.{filled}
-use Rattle.merges.proofs.merge_before.Statement.{statement}
-use Rattle.merges.proofs.merge_before.Tie as tie
+use Rattle.lower.proofs.merge_before.Statement.{statement}
+use Rattle.lower.proofs.merge_before.Tie as tie
 
 union-requires : tie.Need-union-requires
 union-requires c κs =

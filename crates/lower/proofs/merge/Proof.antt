@@ -1,11 +1,11 @@
--- `merges::merge` meets its contract.
+-- `lower::merge` meets its contract.
 use mathlib.Core.Path.{refl}
 use native.Mathlib.Omega.{arith}
 use borrow.Author.Needs.{needs}
 use Rattle.rule.specs.Room.{zeros}
 use Rattle.rooms.proofs.Moving.{merged-alone}
-use Rattle.merges.proofs.merge.Statement.{statement}
-use Rattle.merges.proofs.merge.Tie as tie
+use Rattle.lower.proofs.merge.Statement.{statement}
+use Rattle.lower.proofs.merge.Tie as tie
 
 merge-before-requires : tie.Need-merge-before-requires
 merge-before-requires c κs =

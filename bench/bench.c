@@ -1,10 +1,8 @@
 /* Times the library and plain C on the same readings in one run, and fails where they differ in an answer or a number of the room. */
 #include "plain.h"
+#include "wave.h"
 #include <inttypes.h>
-#include <stdio.h>
-#include <stdlib.h>
 #include <string.h>
-#include <time.h>
 
 #define NUMBERS NDZ_NUMBERS(NDZ_LATE, NDZ_MOST_STEPS, NDZ_MOST_GAPS)
 
@@ -18,28 +16,6 @@ enum { GROWN = 391, BURST = 64 }; /* the ticks of each stretch in the full table
 
 static int64_t library_room[NUMBERS], plain_room[NUMBERS], full_room[NUMBERS];
 static ndz_state full;
-
-static double now(void)
-{
-    struct timespec t;
-    clock_gettime(CLOCK_PROCESS_CPUTIME_ID, &t);
-    return (double)t.tv_sec + 1e-9 * (double)t.tv_nsec;
-}
-
-static void fail(const char *what)
-{
-    printf("differs: %s\n", what);
-    exit(1);
-}
-
-/* A square wave of 60 and 12,050 with noise, and a dip at every 37th tick. */
-static int32_t value_at(uint32_t tick)
-{
-    uint32_t noise = tick * 2654435761u >> 24;
-    if (tick % 37 == 36)
-        return (int32_t)(7400 + noise);
-    return (int32_t)((tick % 1000 < 500 ? 60 : 12050) + noise);
-}
 
 /* Late readings grow `many` stretches, from the one numbered `first` on, by one reading of each in turn: each stretch by its ticks from `from` on, with the
  * values of the numbers from `value` on; far from its stretch's reading before, by turns below and above all others, where `apart` is set. */

@@ -9,6 +9,7 @@
 #include <string.h>
 
 enum { NUMBERS = 8192, BYTES = 65536, PLACES = BYTES / NDZ_RECORD_BYTES, LINE = 1024 };
+enum { LIST = 4096 };
 enum { FILE_BYTES = 655360, FILE_RECORDS = FILE_BYTES / NDZ_RECORD_BYTES, FILE_FRAMES = FILE_BYTES / NDZ_FRAME_BYTES };
 
 /* ---- what the script has made so far */
@@ -18,14 +19,16 @@ static ndz_tally tally;
 static int64_t room[NUMBERS];
 static uint8_t file[FILE_BYTES], output[BYTES];
 static ndz_bucket row[PLACES];
+static uint32_t ticks[LIST];
+static int32_t values[LIST];
 static size_t numbers_lent, bytes_lent;
 
 /* ---- the numbers of the command at hand */
 
-enum name { KIND, BASE, GAPS, USED, RUNS, READINGS, ACCEPTED, REFUSED, MERGES, LENT, PLACE, LENGTH, AT, FROM, TO, START, COUNT, LEAST, LARGEST, TICK, VALUE, FIRST, LAST, BAR, SIZE, BY, COUNTER, NAMES };
+enum name { KIND, BASE, GAPS, USED, RUNS, READINGS, ACCEPTED, REFUSED, MERGES, LENT, PLACE, LENGTH, AT, FROM, TO, START, COUNT, LEAST, LARGEST, TICK, VALUE, FIRST, LAST, BAR, SIZE, BY, COUNTER, TICKS, VALUES, NAMES };
 
 static const char *const names[NAMES] = {"kind", "base", "gaps", "used", "runs", "readings", "accepted", "refused", "merges", "numbers", "places",
-    "bytes", "at", "from", "to", "start", "count", "least", "largest", "tick", "value", "first", "last", "bar", "size", "by", "counter"};
+    "bytes", "at", "from", "to", "start", "count", "least", "largest", "tick", "value", "first", "last", "bar", "size", "by", "counter", "ticks", "values"};
 
 static uint64_t number[NAMES];
 
@@ -222,6 +225,40 @@ static void obey_next(void)
 static void obey_late(void)
 {
     read_on(ndz_late(state, lend_room(), numbers_lent, (uint32_t)number[TICK], (int32_t)number[VALUE]));
+    letter('\n');
+}
+
+feeder *late_many = ndz_late_many;
+
+/* The answered state is the one after the accepted readings, or the given one. */
+static void fed(ndz_fed answer)
+{
+    take_back(room_part, room);
+    refused(answer.refusal, answer.place);
+    show_state(answer.state);
+    unsigned_number(answer.accepted);
+    show_room();
+    state = answer.state;
+}
+
+static void obey_next_many(void)
+{
+    size_t from = at_most(number[FROM], LIST), count = at_most(number[VALUES], LIST - from);
+    const int32_t *lent = lend_const(values_part, values + from, count * sizeof *values);
+    fed(ndz_next_many(state, lend_room(), numbers_lent, lent, count));
+    take_back(values_part, values + from);
+    letter('\n');
+}
+
+static void obey_late_many(void)
+{
+    size_t from = at_most(number[FROM], LIST), most = LIST - from;
+    size_t tick_count = at_most(number[TICKS], most), value_count = at_most(number[VALUES], most);
+    const uint32_t *lent_ticks = lend_const(ticks_part, ticks + from, tick_count * sizeof *ticks);
+    const int32_t *lent_values = lend_const(values_part, values + from, value_count * sizeof *values);
+    fed(late_many(state, lend_room(), numbers_lent, lent_ticks, tick_count, lent_values, value_count));
+    take_back(ticks_part, ticks + from);
+    take_back(values_part, values + from);
     letter('\n');
 }
 
@@ -425,6 +462,14 @@ static void obey_blank(void)
     memset(row, (int)(number[VALUE] & 255), count);
 }
 
+static void obey_reading(void)
+{
+    if (number[AT] < LIST) {
+        ticks[number[AT]] = (uint32_t)number[TICK];
+        values[number[AT]] = (int32_t)number[VALUE];
+    }
+}
+
 /* ---- the language */
 
 static const struct {
@@ -459,6 +504,9 @@ static const struct {
     {"error", obey_error},
     {"nexttold", obey_next_told},
     {"latetold", obey_late_told},
+    {"nextmany", obey_next_many},
+    {"latemany", obey_late_many},
+    {"reading", obey_reading},
 };
 
 static void not_a_command(const char *line)

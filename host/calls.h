@@ -8,9 +8,12 @@ typedef ndz_written callee(ndz_state state, const int64_t *room, size_t numbers,
 
 typedef ndz_replayed replayer(ndz_settings settings, const uint8_t *recording, size_t bytes, int64_t *room, size_t numbers);
 
-/* What the commands `save` and `replay` call: ndz_save and ndz_replay, and in the self test others. */
+typedef ndz_fed feeder(ndz_state state, int64_t *room, size_t numbers, const uint32_t *ticks, size_t tick_count, const int32_t *values, size_t value_count);
+
+/* What the commands `save`, `replay` and `latemany` call: ndz_save, ndz_replay and ndz_late_many, and in the self test others. */
 extern callee *save;
 extern replayer *replay;
+extern feeder *late_many;
 
 /* Obeys one command; the line is taken apart. */
 void obey(char *line);

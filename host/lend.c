@@ -17,9 +17,11 @@ struct part {
     size_t at, count;
 };
 
-static part parts[] = {{.name = "the room"}, {.name = "the file"}, {.name = "the row"}, {.name = "the output"}, {.name = "the tally"}};
+static part parts[] = {{.name = "the room"}, {.name = "the file"}, {.name = "the row"}, {.name = "the output"}, {.name = "the tally"},
+    {.name = "the ticks"}, {.name = "the values"}};
 enum { PARTS = sizeof parts / sizeof parts[0] };
 part *const room_part = &parts[0], *const file_part = &parts[1], *const row_part = &parts[2], *const output_part = &parts[3], *const tally_part = &parts[4];
+part *const ticks_part = &parts[5], *const values_part = &parts[6];
 
 const char *call_at_hand = "no call";
 uint64_t line_at_hand;

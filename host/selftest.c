@@ -1,5 +1,5 @@
-/* The self test: callees in the place of ndz_save and ndz_replay that touch more than they are lent, or write to what is const, must end the host with
- * a message, and those that do not must not. */
+/* The self test: callees in the place of ndz_save, ndz_replay and ndz_late_many that touch more than they are lent, or write to what is const, must end
+ * the host with a message, and those that do not must not. */
 #define _GNU_SOURCE
 #include "calls.h"
 #include <stdio.h>
@@ -84,8 +84,45 @@ static ndz_replayed writes_behind_room(ndz_settings of, const uint8_t *recording
     return right_replay(of, recording, bytes, numbers, count);
 }
 
-/* So many saves or replays by the callee, in a process of its own; answers its status, and what it said. */
-static int tried(callee *called, replayer *replaying, char *said, size_t most)
+static ndz_fed right_many(ndz_state of, int64_t *numbers, size_t count, const uint32_t *ticks, size_t tick_count, const int32_t *values, size_t value_count)
+{
+    for (size_t i = 0; i < tick_count; i++)
+        seen += ticks[i];
+    for (size_t i = 0; i < value_count; i++)
+        seen += values[i];
+    for (size_t i = 0; i < count; i++)
+        numbers[i] = 0;
+    return (ndz_fed){.state = of};
+}
+
+static ndz_fed reads_before_ticks(ndz_state of, int64_t *numbers, size_t count, const uint32_t *ticks, size_t tick_count, const int32_t *values, size_t value_count)
+{
+    seen += *(const volatile uint32_t *)(ticks - 1);
+    return right_many(of, numbers, count, ticks, tick_count, values, value_count);
+}
+
+/* As many ticks as values, where there are fewer. */
+static ndz_fed reads_behind_ticks(ndz_state of, int64_t *numbers, size_t count, const uint32_t *ticks, size_t tick_count, const int32_t *values, size_t value_count)
+{
+    seen += *(const volatile uint32_t *)(ticks + value_count - 1);
+    return right_many(of, numbers, count, ticks, tick_count, values, value_count);
+}
+
+static ndz_fed reads_behind_values(ndz_state of, int64_t *numbers, size_t count, const uint32_t *ticks, size_t tick_count, const int32_t *values, size_t value_count)
+{
+    seen += *(const volatile int32_t *)(values + value_count);
+    return right_many(of, numbers, count, ticks, tick_count, values, value_count);
+}
+
+static ndz_fed writes_values(ndz_state of, int64_t *numbers, size_t count, const uint32_t *ticks, size_t tick_count, const int32_t *values, size_t value_count)
+{
+    volatile int32_t *first = (volatile int32_t *)(uintptr_t)values;
+    *first = *first;
+    return right_many(of, numbers, count, ticks, tick_count, values, value_count);
+}
+
+/* So many saves, replays or calls of many readings by the callee, in a process of its own; answers its status, and what it said. */
+static int tried(callee *called, replayer *replaying, feeder *feeding, char *said, size_t most)
 {
     int ends[2];
     memset(said, 0, most);
@@ -99,12 +136,14 @@ static int tried(callee *called, replayer *replaying, char *said, size_t most)
             save = called;
         if (replaying != NULL)
             replay = replaying;
+        if (feeding != NULL)
+            late_many = feeding;
         char room[] = "room numbers=13", file[] = "file bytes=18";
         obey(room);
         obey(file);
         for (int turn = 0; turn < 64; turn++) {
-            char saved[] = "save bytes=33", replayed[] = "replay size=1 gaps=1";
-            obey(called != NULL ? saved : replayed);
+            char saved[] = "save bytes=33", replayed[] = "replay size=1 gaps=1", fed[] = "latemany from=9 ticks=5 values=6";
+            obey(called != NULL ? saved : replaying != NULL ? replayed : fed);
         }
         _exit(0);
     }
@@ -123,23 +162,29 @@ int selftest(void)
         const char *name, *message;
         callee *called;
         replayer *replaying;
+        feeder *feeding;
         int status;
     } callees[] = {
-        {"right", "", right, NULL, 0},
-        {"reads before the room", "touches what lies before the room", reads_before, NULL, 3},
-        {"reads behind the room", "touches what lies behind the room", reads_behind, NULL, 3},
-        {"writes before the output", " the output", writes_before, NULL, 3},
-        {"writes behind the output", " the output", writes_behind, NULL, 3},
-        {"writes to the const room", "writes to the room", writes_const, NULL, 3},
-        {"replays right", "", NULL, right_replay, 0},
-        {"reads before the file", "touches what lies before the file", NULL, reads_before_file, 3},
-        {"reads behind the file", "touches what lies behind the file", NULL, reads_behind_file, 3},
-        {"writes to the const file", "writes to the file", NULL, writes_file, 3},
-        {"writes behind the room", " the room", NULL, writes_behind_room, 3},
+        {"right", "", right, NULL, NULL, 0},
+        {"reads before the room", "touches what lies before the room", reads_before, NULL, NULL, 3},
+        {"reads behind the room", "touches what lies behind the room", reads_behind, NULL, NULL, 3},
+        {"writes before the output", " the output", writes_before, NULL, NULL, 3},
+        {"writes behind the output", " the output", writes_behind, NULL, NULL, 3},
+        {"writes to the const room", "writes to the room", writes_const, NULL, NULL, 3},
+        {"replays right", "", NULL, right_replay, NULL, 0},
+        {"reads before the file", "touches what lies before the file", NULL, reads_before_file, NULL, 3},
+        {"reads behind the file", "touches what lies behind the file", NULL, reads_behind_file, NULL, 3},
+        {"writes to the const file", "writes to the file", NULL, writes_file, NULL, 3},
+        {"writes behind the room", " the room", NULL, writes_behind_room, NULL, 3},
+        {"feeds right", "", NULL, NULL, right_many, 0},
+        {"reads before the ticks", "touches what lies before the ticks", NULL, NULL, reads_before_ticks, 3},
+        {"reads behind the ticks", "touches what lies behind the ticks", NULL, NULL, reads_behind_ticks, 3},
+        {"reads behind the values", "touches what lies behind the values", NULL, NULL, reads_behind_values, 3},
+        {"writes to the const values", "writes to the values", NULL, NULL, writes_values, 3},
     };
     for (size_t i = 0; i < sizeof callees / sizeof callees[0]; i++) {
         char said[256];
-        int status = tried(callees[i].called, callees[i].replaying, said, sizeof said);
+        int status = tried(callees[i].called, callees[i].replaying, callees[i].feeding, said, sizeof said);
         if (status != callees[i].status || strstr(said, callees[i].message) == NULL) {
             printf("host: a callee that %s ends with %d and says: %s\n", callees[i].name, status, said);
             return 1;

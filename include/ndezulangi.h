@@ -3,9 +3,10 @@
  * What every call keeps
  *   A call ends with its answer or with one refusal. `refusal` is 0 where the call was accepted, else the number of one of
  *   the NDZ_ names below (ndz_refusal_text has them in words); `place` is 0 but for NDZ_RECORD, where it is the index of the
- *   record. After a refusal nothing that was lent has changed, but for the count of refused readings in a tally. The
- *   conditions are tried in the order in which a call lists its refusals, and the first that holds is the one given. All
- *   this is proved of the functions themselves (crates/c_trace, c_look, c_lend, c_replay), for any numbers and bytes.
+ *   record. After a refusal nothing that was lent has changed, but for the count of refused readings in a tally, and where
+ *   many readings are handed over for those before the refused one. The conditions are tried in the order in which a
+ *   call lists its refusals, and the first that holds is the one given. All this is proved of the functions themselves
+ *   (crates/c_trace, c_look, c_lend, c_replay, c_many), for any numbers and bytes.
  *
  * What every call needs
  *   A pointer comes with the number of its elements: `numbers` counts numbers of 64 bits, not slots and not bytes. It must
@@ -19,12 +20,13 @@
  *   trace opened by B, NDZ_NUMBERS_BASE(kind, C, K) for one opened by C, and a room may have more. The slots in use come
  *   first, in tick order, the others up to the needed number are zeros, and what lies behind the needed slots is never
  *   written. Hand each call the state that the last one left and the same room; state and room that do not belong together
- *   are refused by NDZ_UNSOUND, whatever they hold.
+ *   are refused by NDZ_UNSOUND by every call that looks at them, whatever they hold.
  *
  * Going on after an answer
  *   ndz_take(&state, ndz_next(state, ..)) goes on with an accepted answer's state and leaves the state where the call was
- *   refused; it returns the refusal. `state = ndz_load(..).state` without a look at the refusal loses the trace at hand: a
- *   refused open, load or replay answers a state of zeros, which no call accepts.
+ *   refused; it returns the refusal. After many readings go on with the answered state, refused or not: it is the one after
+ *   those that were accepted. `state = ndz_load(..).state` without a look at the refusal loses the trace at hand: a
+ *   refused open, load or replay answers a state of zeros, which no reading and no look accepts.
  */
 #ifndef NDEZULANGI_H
 #define NDEZULANGI_H
@@ -37,7 +39,7 @@ extern "C" {
 #endif
 
 #define NDZ_VERSION_MAJOR 0
-#define NDZ_VERSION_MINOR 5
+#define NDZ_VERSION_MINOR 6
 
 /* Kinds. Any other number than 0 is taken as late, and an accepted call hands it back as 1. */
 #define NDZ_IN_ORDER 0 /* the next reading takes the next tick, from 0 */
@@ -116,12 +118,21 @@ typedef struct {
     uint32_t merges;
 } ndz_tally;
 
-/* Accepted: the next state. Refused: the state that was given; of a refused open or load all zeros, which no call accepts. */
+/* Accepted: the next state. Refused: the state that was given; of a refused open or load all zeros. */
 typedef struct {
     uint32_t refusal;
     uint64_t place;
     ndz_state state;
 } ndz_answer;
+
+/* What became of many readings: how many were accepted before the first refusal, if there was one, and the state after those;
+ * where none was accepted, the state that was given, exactly. */
+typedef struct {
+    uint32_t refusal;
+    uint64_t place;
+    ndz_state state;
+    uint64_t accepted;
+} ndz_fed;
 
 /* A replayed trace, and how many records were accepted and how many refused. Refused: state and counts all zeros. */
 typedef struct {
@@ -182,6 +193,18 @@ ndz_answer ndz_late(ndz_state state, int64_t *room, size_t numbers, uint32_t tic
 /* The same two, counted in a tally. Begin with zeros. */
 ndz_answer ndz_next_tallied(ndz_state state, int64_t *room, size_t numbers, int32_t value, ndz_tally *tally);
 ndz_answer ndz_late_tallied(ndz_state state, int64_t *room, size_t numbers, uint32_t tick, int32_t value, ndz_tally *tally);
+
+/* Many readings of a trace in order: each as ndz_next would take it, in turn, until one is refused, which is the one at
+ * index `accepted`. Where there are none nothing is asked, so nothing is refused, even of an unsound trace.
+ * It keeps some 66 KB on the stack, however few the readings.
+ * Refuses: NDZ_UNSOUND, NDZ_KIND, NDZ_TICK. */
+ndz_fed ndz_next_many(ndz_state state, int64_t *room, size_t numbers, const int32_t *values, size_t count);
+
+/* The same of a late trace, each reading at its tick as ndz_late would take it: as many as there are of ticks and values
+ * both. To pass over a refused reading, call again from the one behind it.
+ * Refuses: NDZ_UNSOUND, NDZ_KIND, NDZ_TICK, NDZ_TAKEN, NDZ_RUNS. */
+ndz_fed ndz_late_many(ndz_state state, int64_t *room, size_t numbers, const uint32_t *ticks, size_t tick_count,
+                      const int32_t *values, size_t value_count);
 
 /* The step that holds a tick. Writes nothing.
  * Refuses: NDZ_UNSOUND, NDZ_TICK, NDZ_ABSENT. */

@@ -5,8 +5,8 @@
 //! with `#` is a heading for what follows it, and is no command. Words and names have at most eight letters.
 //!
 //! A script has a state at hand, of six fields, a room of 8,192 numbers of which the first so many are lent, a file of 655,360 bytes of which the
-//! first so many are lent, a row of 4,096 buckets, an output of 65,536 bytes and a tally, all 0 at first. Where a command names more of them than
-//! there is, all there is is meant.
+//! first so many are lent, a row of 4,096 buckets, an output of 65,536 bytes, a list of 4,096 ticks and 4,096 values and a tally, all 0 at first.
+//! Where a command names more of them than there is, all there is is meant.
 //!
 //! | Word | Names | What it does |
 //! |---|---|---|
@@ -14,6 +14,8 @@
 //! | `next` | `value` | the next reading |
 //! | `late` | `tick value` | a late reading |
 //! | `nexttold`, `latetold` | as `next`, `late` | the same with the tally lent |
+//! | `nextmany` | `from values` | the next readings: so many values of the list are lent, from an index on |
+//! | `latemany` | `from ticks values` | late readings: so many ticks of the list are lent and so many values, both from an index on |
 //! | `lookup` | `tick` | |
 //! | `over` | `first last bar` | the first bucket over the bar among those of a range of ticks |
 //! | `worst` | | the worst error |
@@ -36,17 +38,18 @@
 //! | `copy` | `from to count` | so many records of the file, which may overlap; none where either end passes the file's |
 //! | `take` | `bytes` | the first so many bytes of the output become the file, and are lent |
 //! | `blank` | `bytes value` | the first so many bytes of the output, and of the row's buckets as they lie in memory, are this |
+//! | `reading` | `at tick value` | the tick and the value of the list at an index |
 //!
-//! What would stand past the end of room or file is dropped. The kind is 0 in order and any other number late. An accepted call that answers a
-//! state leaves it at hand; a refused one leaves the state at hand as it was.
+//! What would stand past the end of room, file or list is dropped. The kind is 0 in order and any other number late. An accepted call that answers a
+//! state leaves it at hand, and so do many readings of which one is accepted; a refused one leaves the state at hand as it was.
 //!
 //! The words from `open` to `show` write one line each, of the word and numbers one space apart. First what is answered, whole: a refusal, 0 where
-//! the call was accepted, and its place; then the six fields of a state (of a refused reading those that were given, of a refused open, load or
-//! replay zeros), behind those of a replay how many records were accepted and how many refused; or a lookup's level, error, least and largest, or 1
-//! with the index and the start of the bucket that is over, three zeros where none is, or the worst error, or how many buckets were written, each 0
-//! where refused. Then what was lent: ` room`, a checksum of the lent numbers; of a told reading ` tally` and its three counts; of a row, a save, a
-//! load or a replay ` row`, ` output` or ` file` and the checksum of what was lent. `level` and `error` write the number alone; `show` the state at
-//! hand and every lent number.
+//! the call was accepted, and its place; then the six fields of a state (of a refused reading those that were given, of many readings those after
+//! the accepted ones, of a refused open, load or replay zeros), behind those of a replay how many records were accepted and how many refused, behind
+//! those of many readings how many were accepted; or a lookup's level, error, least and largest, or 1 with the index and the start of the bucket that
+//! is over, three zeros where none is, or the worst error, or how many buckets were written, each 0 where refused. Then what was lent: ` room`, a
+//! checksum of the lent numbers; of a told reading ` tally` and its three counts; of a row, a save, a load or a replay ` row`, ` output` or ` file` and
+//! the checksum of what was lent. `level` and `error` write the number alone; `show` the state at hand and every lent number.
 //!
 //! A checksum is sixteen hex digits. It begins with how many numbers there are; for each number, by its 64 bits, exclusive or with it, then
 //! exclusive or with itself moved 13 up, then 7 down, then 17 up, then 11,400,714,819,323,198,485 is added, all modulo 2^64. Bytes go as one number
@@ -86,6 +89,8 @@ named! { Word:
     Late "late",
     NextTold "nexttold",
     LateTold "latetold",
+    NextMany "nextmany",
+    LateMany "latemany",
     Lookup "lookup",
     Over "over",
     Worst "worst",
@@ -109,6 +114,7 @@ named! { Word:
     Copy "copy",
     Take "take",
     Blank "blank",
+    Reading "reading",
 }
 
 named! { Name:
@@ -139,6 +145,8 @@ named! { Name:
     Size "size",
     By "by",
     Counter "counter",
+    Ticks "ticks",
+    Values "values",
 }
 
 impl Word {

@@ -5,6 +5,7 @@ use crate::calls::{
 };
 use crate::clauses::{self, CLAUSES};
 use crate::command::{Command, Name, Word};
+use crate::feeds::{self, Feed};
 use crate::recordings;
 use crate::rule::Kind;
 use crate::searches::{Search, SORTS};
@@ -72,6 +73,11 @@ impl Counts {
                 self.replayed(session, number);
             }
             Word::NextTold | Word::LateTold => self.told(&before, &session.tally),
+            Word::NextMany | Word::LateMany => {
+                if self.fed(session, command, state, answer) == 0 {
+                    return;
+                }
+            }
             Word::Lookup => self.looked_up(answer),
             Word::Over => self.searched(session, command, answer),
             _ => {}
@@ -117,6 +123,29 @@ impl Counts {
         if opens && refusal == 0 {
             self.opened = Some(size_of(command));
         }
+    }
+
+    /// Answers how many readings there were: of none nothing is asked, not even whether the trace is sound.
+    fn fed(
+        &mut self,
+        session: &Session,
+        command: &Command,
+        before: State,
+        answer: &Answer,
+    ) -> usize {
+        let Answer::Fed(fed) = answer else {
+            return 0;
+        };
+        let feed = Feed {
+            session,
+            command,
+            before,
+            fed,
+        };
+        for (what, times) in feed.met() {
+            *self.met.entry(what).or_default() += times;
+        }
+        feed.asked()
     }
 
     fn replayed(&mut self, session: &Session, refusal: u32) {
@@ -241,12 +270,14 @@ fn answer_name(word: Word, number: u32) -> String {
 }
 
 /// The refusals that each call can give.
-pub const REFUSALS: [(Word, &[u32]); 14] = [
+pub const REFUSALS: [(Word, &[u32]); 16] = [
     (Word::Open, &[1, 2, 3]),
     (Word::Next, &[4, 5, 6]),
     (Word::Late, &[4, 5, 6, 9, 11]),
     (Word::NextTold, &[4, 5, 6]),
     (Word::LateTold, &[4, 5, 6, 9, 11]),
+    (Word::NextMany, &[4, 5, 6]),
+    (Word::LateMany, &[4, 5, 6, 9, 11]),
     (Word::Lookup, &[4, 6, 12]),
     (Word::Over, &[4, 6]),
     (Word::Worst, &[4]),
@@ -302,6 +333,7 @@ pub fn wanted() -> Met {
     }
     wanted.extend(sizes::wanted());
     wanted.extend(recordings::wanted());
+    wanted.extend(feeds::wanted());
     wanted.extend(crate::scripts::wanted_headings());
     wanted
 }

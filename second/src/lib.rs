@@ -7,6 +7,7 @@ pub mod classes;
 pub mod clauses;
 pub mod command;
 pub mod counts;
+pub mod feeds;
 pub mod lines;
 pub mod listing;
 pub mod logger;

@@ -1,6 +1,9 @@
 //! What a script has made so far, and how each command changes it and what it answers.
 
-use crate::calls::{self, Held, Record, Refusal, Replayed, Size, State, Tally, RECORD_BYTES, SLOT};
+use crate::calls::{
+    self, Fed, Held, Record, Refusal, Replayed, Size, State, Tally, RECORD_BYTES, SLOT,
+};
+use crate::clauses;
 use crate::command::{Command, Name, Word};
 use crate::logger::{Frame, FRAME_BYTES};
 use crate::rule::{Bucket, Kind};
@@ -15,6 +18,8 @@ pub const FILE_RECORDS: usize = FILE_BYTES / RECORD_BYTES;
 pub const FILE_FRAMES: usize = FILE_BYTES / FRAME_BYTES;
 /// Buckets of the whole row.
 pub const PLACES: usize = BYTES / RECORD_BYTES;
+/// Ticks and values of the whole list.
+pub const READINGS: usize = 4_096;
 
 const NO_RECORD: Record = Record {
     start: 0,
@@ -26,6 +31,7 @@ const NO_RECORD: Record = Record {
 /// What a command answers.
 pub enum Answer {
     State(Result<State, Refusal>),
+    Fed(Fed),
     Replayed(Result<Replayed, Refusal>),
     Found(Result<Held, Refusal>),
     Over(Result<Option<(u64, u64)>, Refusal>),
@@ -40,6 +46,7 @@ impl Answer {
     pub fn refusal(&self) -> Option<Refusal> {
         match self {
             Answer::State(answer) => answer.err(),
+            Answer::Fed(fed) => fed.refusal,
             Answer::Replayed(answer) => answer.err(),
             Answer::Found(answer) => answer.err(),
             Answer::Over(answer) => answer.err(),
@@ -61,6 +68,8 @@ pub struct Session {
     pub file: Vec<u8>,
     pub row: Vec<Record>,
     pub output: Vec<u8>,
+    pub ticks: Vec<u32>,
+    pub values: Vec<i32>,
 }
 
 impl Session {
@@ -75,6 +84,8 @@ impl Session {
             file: vec![0; FILE_BYTES],
             row: vec![NO_RECORD; PLACES],
             output: vec![0; BYTES],
+            ticks: vec![0; READINGS],
+            values: vec![0; READINGS],
         }
     }
 
@@ -84,6 +95,16 @@ impl Session {
 
     pub fn lent_file(&self) -> &[u8] {
         &self.file[..self.length]
+    }
+
+    /// The ticks that many readings are lent.
+    pub fn lent_ticks(&self, command: &Command) -> &[u32] {
+        part(&self.ticks, command, Name::Ticks)
+    }
+
+    /// The values that many readings are lent.
+    pub fn lent_values(&self, command: &Command) -> &[i32] {
+        part(&self.values, command, Name::Values)
     }
 
     /// Kind, C, K, slots in use, runs and readings of the state at hand.
@@ -97,6 +118,10 @@ impl Session {
             ..
         } = self.state;
         [self.kind, base, gaps, used, runs, readings]
+    }
+
+    pub fn is_unsound(&self) -> bool {
+        clauses::broken(self.state, self.lent_numbers()).contains(&true)
     }
 
     /// Of a sound trace, whose slots in use are all there.
@@ -123,6 +148,7 @@ impl Session {
             Word::Open | Word::Next | Word::Late | Word::NextTold | Word::LateTold | Word::Load => {
                 self.change(command)
             }
+            Word::NextMany | Word::LateMany => self.feed(command),
             Word::Replay => self.replay(command),
             Word::Lookup => {
                 let tick = command.number(Name::Tick) as u32;
@@ -175,6 +201,21 @@ impl Session {
             self.go_on(after);
         }
         Answer::State(answer)
+    }
+
+    /// Many readings; where none is accepted the state at hand stays as the script gave it.
+    fn feed(&mut self, command: &Command) -> Answer {
+        let values = part(&self.values, command, Name::Values);
+        let ticks = part(&self.ticks, command, Name::Ticks);
+        let room = &mut self.room[..self.lent];
+        let fed = match command.word {
+            Word::NextMany => calls::next_many(self.state, room, values),
+            _ => calls::late_many(self.state, room, ticks, values),
+        };
+        if fed.accepted > 0 {
+            self.go_on(fed.state);
+        }
+        Answer::Fed(fed)
     }
 
     fn replay(&mut self, command: &Command) -> Answer {
@@ -245,6 +286,13 @@ impl Session {
                     self.file.copy_within(from..from + count, to);
                 }
             }
+            Word::Reading => {
+                let at = at_most(number(Name::At), READINGS);
+                if at < READINGS {
+                    self.ticks[at] = number(Name::Tick) as u32;
+                    self.values[at] = number(Name::Value) as i32;
+                }
+            }
             Word::Take => {
                 self.length = at_most(number(Name::Bytes), BYTES);
                 self.file[..self.length].copy_from_slice(&self.output[..self.length]);
@@ -303,6 +351,12 @@ const FIELDS: [Name; SLOT] = [Name::Start, Name::Count, Name::Least, Name::Large
 
 fn at_most(number: u64, most: usize) -> usize {
     number.min(most as u64) as usize
+}
+
+/// As much of a list as a command lends, from where it says.
+fn part<'a, T>(list: &'a [T], command: &Command, name: Name) -> &'a [T] {
+    let behind = &list[at_most(command.number(Name::From), READINGS)..];
+    &behind[..at_most(command.number(name), behind.len())]
 }
 
 pub fn kind_of(number: u64) -> Kind {

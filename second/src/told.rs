@@ -73,6 +73,11 @@ fn answered(session: &Session, command: &Command, answer: &Answer, text: &mut Ve
             Word::Open | Word::Load => numbers(text, &[0; 6]),
             _ => numbers(text, &session.fields()),
         },
+        // The session has gone on with the state after the accepted ones, or kept the one that was given.
+        Answer::Fed(fed) => {
+            numbers(text, &session.fields());
+            numbers(text, &[fed.accepted]);
+        }
         Answer::Replayed(Ok(replayed)) => {
             let Replayed {
                 state,

@@ -2,7 +2,7 @@
 use Prim.Native.Nat.{ℕ, zero, suc, _+_, _*_, _/_, _≤_, _<_, min}
 use mathlib.Core.Path.{_≡_, refl, sym, ap, subst, _∙_}
 use mathlib.Core.Bool.{Bool, true, false, cond, false≢true, not, _&&_}
-use mathlib.Core.List.{List, [], _∷_, _++_, map}
+use mathlib.Core.List.{List, [], _∷_, _++_, map, List·Memᴰ, List·Memᴰ·head, List·Memᴰ·tail}
 use mathlib.Core.Option.{Option, some, none}
 use native.Mathlib.Omega.{arith}
 use borrow.Author.Tests.{eq-eqb, eqb-true, le-leb, le-ltb, leb-false, leb-true, lt-ltb, ne-eqb}
@@ -21,7 +21,7 @@ use Rattle.rule.specs.declared.State.{State}
 use Rattle.rule.specs.declared.Tally.{Tally}
 use Rattle.rule.specs.Answers.{number, place}
 use Rattle.rule.specs.Bytes.{recordsOf, saved}
-use Rattle.rule.specs.Calls.{Check, Verdict, accepted, admitted, baseOf, checked, counted, fileVerdict, found, foundOf, gapsKept, grown, isHeld, kept, late, lateOutcome, lateVerdict, loadVerdict, loaded, lookupOutcome, measured, nextVerdict, opened, refused, sizeGood, traced, worstOutcome, writeVerdict, wrote}
+use Rattle.rule.specs.Calls.{Check, Verdict, accepted, admitted, baseOf, checked, counted, fileVerdict, found, foundOf, gapsKept, grown, isHeld, kept, late, lateOutcome, lateVerdict, loadVerdict, loaded, lookupOutcome, measured, nextOutcome, nextVerdict, opened, refused, sizeGood, traced, worstOutcome, writeVerdict, wrote}
 use Rattle.rule.specs.Numbers.{most, mostBase, recordWidth, slotWidth, tallyMost, ticks, word}
 use Rattle.rule.specs.Files.{Finds, FirstBroken, meets}
 use Rattle.rule.specs.Room.{bounded, laid, signed, gapsGood, roomy, runsAllowed, sound, tableOf}
@@ -42,6 +42,8 @@ use Rattle.over.specs.Search.{firstOver, searchOutcome, sought, soughtOf}
 use Rattle.logger.specs.declared.Frame.{Frame}
 use Rattle.logger.specs.Replay.{Course, framesOf, goneOn, lateOpening, replayOutcome, replayVerdict}
 use Rattle.logger.proofs.Along.{replay-keeps, replay-refused}
+use Rattle.series.specs.Series.{Call, Fed, fedFrom, lateCall, nextCall}
+use Rattle.series.proofs.Taking.{fed-ind}
 use Rattle.storage.proofs.Filing.{load-accepts, load-leaves, loads-needed}
 use Rattle.rule.proofs.Whole.{by-test}
 use Rattle.answered.specs.Answered.{Answered, Demand1, Lawful, Row, baseNamed, fileRows, firstOf, lateRows, lookupRows, mostSteps, namedBy, nextRows, openRows, outside, recordingRows, refusing, said, sizeOutside, slotsNeeded, saidFound, saidMeasured, saidSought, saidWritten, searchRows, worstRows, writeRows}
@@ -332,6 +334,33 @@ any-base k c gaps l low high fine long =
     let granted : Granted (kept o) l = record { base = in-bounds mostBase c (low, high); gaps = gaps-fine k gaps fine; long = omega (arith, long, needed-is o) } in
     ap (λ (v : Verdict Table). said (traced (kept o) l v .0)) (grants o l granted (accepted []))
 
+-- ---- past the needed slots
+
+past-next : (s : State) (l : List ℤ) (v : ℤ) → signed v ≡ true → drop (4 * slotsNeeded (s .settings)) (nextOutcome s l v .1) ≡ drop (4 * slotsNeeded (s .settings)) l
+past-next s l v range = read-past s l _ (next-either s l v (Past (s .settings) l) (refused-past (s .settings) l) (λ _ r small. taken-past s l _ _ _ v r range small))
+
+past-late : (s : State) (l : List ℤ) (tick : ℕ) (v : ℤ) → signed v ≡ true → drop (4 * slotsNeeded (s .settings)) (lateOutcome s l tick v .1) ≡ drop (4 * slotsNeeded (s .settings)) l
+past-late s l tick v range = read-past s l _ (late-past s l tick v range)
+
+-- of many readings, where it is so of one, and the settings stay
+module _ {A : Type 0} (call : Call A) (Fits : A → Type 0)
+    (past : (s : State) (l : List ℤ) (v : A) → Fits v → drop (4 * slotsNeeded (s .settings)) (call s l v .1) ≡ drop (4 * slotsNeeded (s .settings)) l)
+    (stay : (s t : State) (l m : List ℤ) (v : A) → call s l v ≡ (accepted t, m) → t .settings ≡ s .settings) where
+  abbrev ManyPast : State → List ℤ → List A → Fed → Type 0
+  ManyPast s l vs f = ((v : A) → List·Memᴰ v vs → Fits v) → drop (4 * slotsNeeded (s .settings)) (f .room) ≡ drop (4 * slotsNeeded (s .settings)) l
+
+  past-one : (s : State) (l : List ℤ) (v : A) {o : Verdict State × List ℤ} → call s l v ≡ o → Fits v → drop (4 * slotsNeeded (s .settings)) (o .1) ≡ drop (4 * slotsNeeded (s .settings)) l
+  past-one s l v e q = ap (λ (o : Verdict State × List ℤ). drop (4 * slotsNeeded (s .settings)) (o .1)) (sym e) ∙ past s l v q
+
+  many-past : (s : State) (l : List ℤ) (vs : List A) → ManyPast s l vs (fedFrom call 0 s l vs)
+  many-past =
+      fed-ind call ManyPast
+      (λ s l q. refl)
+      (λ s l v vs r m e q. past-one s l v e (q v (List·Memᴰ·head refl)))
+      (λ s l v vs t m e ih q.
+      subst (λ (g : Settings). drop (4 * slotsNeeded g) (fedFrom call 0 t m vs .room) ≡ drop (4 * slotsNeeded g) m) (stay s t l m v e) (ih (λ w i. q w (List·Memᴰ·tail i)))
+      ∙ past-one s l v e (q v (List·Memᴰ·head refl)))
+
 pub demand1 : Demand1
 unfolding nextVerdict lateVerdict lookupOutcome writeVerdict replayVerdict ruled said firstOf late baseNamed
 demand1 = record {
@@ -357,10 +386,12 @@ demand1 = record {
   breaks = λ k file i inside broken. by-test (isWhole (firstFault k 0 0 (recordsOf file))) (λ h. absurd (false≢true (sym broken ∙ all-meet k file (firstFault k 0 0 (recordsOf file)) h (first-is-first k file) i inside))) (λ h. h);
   rules = λ k e b. (λ h. lawful k e b (meets-facts k e b h), λ h. facts-meets k e b (law-meets k e b h));
   past-open = λ g l. named-past g l _ (open-past g l);
-  past-next = λ s l v range. read-past s l _ (next-either s l v (Past (s .settings) l) (refused-past (s .settings) l) (λ _ r small. taken-past s l _ _ _ v r range small));
-  past-late = λ s l tick v range. read-past s l _ (late-past s l tick v range);
+  past-next = past-next;
+  past-late = past-late;
   past-load = λ g file l. named-past g l _ (load-past g file l (loaded g file l) refl);
   past-replay = λ size gaps recording l. named-past (lateOpening size gaps) l _ (replay-past size gaps recording l (replayOutcome size gaps recording l) refl);
+  past-next-many = many-past nextCall (λ v. signed v ≡ true) past-next (λ s t l m v e. accepted-settings (s .settings) l (nextVerdict s l v) e);
+  past-late-many = many-past lateCall (λ w. signed (w .1) ≡ true) (λ s l w q. past-late s l (w .0) (w .1) q) (λ s t l m w e. accepted-settings (s .settings) l (lateVerdict s l (w .0) (w .1)) e);
   sizes-in-order = λ c gaps k. (omega arith, omega arith);
   sizes-late = λ c gaps k. (refl, refl);
   tally = told;

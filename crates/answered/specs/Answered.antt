@@ -29,6 +29,8 @@ use Rattle.rule.specs.Table.{accept, holding, nextTick, runs}
 use Rattle.over.specs.declared.Sought.{Sought}
 use Rattle.over.specs.Search.{searchOutcome}
 use Rattle.logger.specs.Replay.{replayOutcome}
+use Rattle.series.specs.Promise.{AllSigned, AllTimed}
+use Rattle.series.specs.Series.{lateMany, nextMany}
 use Rattle.rule.specs.declared.Measured.{Measured}
 
 -- ---- the table, call by call, in the orders of document 01
@@ -211,6 +213,8 @@ pub record Demand1 : Type 0 where
   pub past-load : (g : Opening) (file : List ℕ) (l : List ℤ) → drop (4 * slotsNeeded (namedBy g)) (loaded g file l .1) ≡ drop (4 * slotsNeeded (namedBy g)) l
   pub past-replay : (size : Size) (gaps : ℕ) (recording : List ℕ) (l : List ℤ) → let n = 4 * slotsNeeded (record { kind = Late; base = baseNamed size; gaps = gaps }) in
       drop n (replayOutcome size gaps recording l .1) ≡ drop n l
+  pub past-next-many : (s : State) (l vs : List ℤ) → AllSigned vs → drop (4 * slotsNeeded (s .settings)) (nextMany s l vs .room) ≡ drop (4 * slotsNeeded (s .settings)) l
+  pub past-late-many : (s : State) (l : List ℤ) (ws : List (ℕ × ℤ)) → AllTimed ws → drop (4 * slotsNeeded (s .settings)) (lateMany s l ws .room) ≡ drop (4 * slotsNeeded (s .settings)) l
   -- so many slots are needed, and so many steps kept at most, for a base limit C: in order C + 1 and C, whatever K is named, and late C + K + 1 and C + k
   pub sizes-in-order : (c gaps k : ℕ) → let s : Settings = record { kind = InOrder; base = c; gaps = gaps } in (slotsNeeded s ≡ c + 1) × (mostSteps s k ≡ c)
   pub sizes-late : (c gaps k : ℕ) → let s : Settings = record { kind = Late; base = c; gaps = gaps } in (slotsNeeded s ≡ c + gaps + 1) × (mostSteps s k ≡ c + k)

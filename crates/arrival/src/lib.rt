@@ -1,5 +1,5 @@
-// Whether a reading is taken, and where it goes: the refusals of the two readings, in document 01's order. Nothing is written. `next` and `late` ask nothing of a caller; `placed` goes on where soundness is known.
-ghost use mathlib.Core.Bool.{true};
+// Whether a reading is taken, and where it goes: the refusals of the two readings, in document 01's order. Nothing is written. `next` and `late` ask nothing of a caller; `following` and `placed` go on where soundness is known.
+ghost use mathlib.Core.Bool.{false, true};
 ghost use mathlib.Core.Path.{_≡_};
 ghost use lib.IntN.{ℤ};
 ghost use Rattle.rule.specs.Calls.{late};
@@ -34,6 +34,22 @@ pub(crate) fn next_tick(room: &[i64], used: usize) -> usize
     bucket::end(read(room, used - 1))
 }
 
+// The next reading of a trace in order that is known to be sound.
+pub fn following(s: State, room: &[i64]) -> Arrival
+    requires { ⌜ (sound s (now room) ≡ true) × (late (s .settings .kind) ≡ false) ⌝ }
+    ensures { λ r. ⌜ r ≡ nextArrival s (now (room .entry)) ⌝ }
+{
+    let tick = next_tick(room, s.used);
+    if TICKS <= tick {
+        return Arrival::Refused(Refusal::Tick);
+    }
+    Arrival::Goes {
+        at: s.used,
+        runs: 1,
+        tick: tick as u32,
+    }
+}
+
 // The next reading of a trace in order.
 pub fn next(s: State, room: &[i64]) -> Arrival
     ensures { λ r. ⌜ r ≡ nextArrival s (now (room .entry)) ⌝ }
@@ -46,15 +62,7 @@ pub fn next(s: State, room: &[i64]) -> Arrival
     if is_late(kind) {
         return Arrival::Refused(Refusal::Kind);
     }
-    let tick = next_tick(room, s.used);
-    if TICKS <= tick {
-        return Arrival::Refused(Refusal::Tick);
-    }
-    Arrival::Goes {
-        at: s.used,
-        runs: 1,
-        tick: tick as u32,
-    }
+    following(s, room)
 }
 
 // A reading at its tick of a late trace that is known to be sound. Its value plays no part.

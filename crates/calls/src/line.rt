@@ -17,6 +17,12 @@ pub(crate) const SAVE: u64 = 0x73617665;
 
 pub(crate) const WORST: u64 = 0x776f727374;
 
+pub(crate) const NEXT_MANY: u64 = 0x6e6578746d616e79;
+
+pub(crate) const LATE_MANY: u64 = 0x6c6174656d616e79;
+
+pub(crate) const READING: u64 = 0x72656164696e67;
+
 pub(crate) const SET: u64 = 0x736574;
 
 pub(crate) const BYTE: u64 = 0x62797465;
@@ -42,6 +48,12 @@ pub(crate) const SIZE: usize = 11;
 
 pub(crate) const BY: usize = 12;
 
+pub(crate) const FROM: usize = 13;
+
+pub(crate) const TICKS: usize = 14;
+
+pub(crate) const VALUES: usize = 15;
+
 // What is read so far of a line: its word, the name of the number at hand, letters of either, and the number.
 pub struct Reading {
     pub word: u64,
@@ -62,7 +74,7 @@ pub(crate) fn nothing() -> Reading {
 }
 
 fn place(name: u64) -> usize
-    ensures { λ r. ⌜ r < 14 ⌝ }
+    ensures { λ r. ⌜ r < 17 ⌝ }
 {
     match name {
         0x6b696e64 => 0,
@@ -78,7 +90,10 @@ fn place(name: u64) -> usize
         0x76616c7565 => VALUE,
         0x73697a65 => SIZE,
         0x6279 => BY,
-        _ => 13,
+        0x66726f6d => FROM,
+        0x7469636b73 => TICKS,
+        0x76616c756573 => VALUES,
+        _ => 16,
     }
 }
 
@@ -127,6 +142,6 @@ impl Reading {
     }
 }
 
-pub(crate) fn put(given: &mut [u64; 14], reading: Reading) {
+pub(crate) fn put(given: &mut [u64; 17], reading: Reading) {
     given[place(reading.name)] = reading.value();
 }

@@ -1,5 +1,6 @@
 // Obeys a short script from standard input and writes what every call answers and leaves. The language is the one that second/src/command.rs
-// describes; obeyed are the calls but for the search, the row and the readings with a tally, and of the changes state, room, set, file, byte and take.
+// describes; obeyed are the calls but for the search, the row, the replay and the readings with a tally, and of the changes state, room, set, file,
+// byte, take and reading.
 mod line;
 mod show;
 
@@ -7,11 +8,14 @@ ghost use Prim.Native.Nat.{_≤_};
 use line::AT;
 use line::BY;
 use line::BYTES;
+use line::FROM;
 use line::NUMBERS;
 use line::Reading;
 use line::SIZE;
 use line::TICK;
+use line::TICKS;
 use line::VALUE;
+use line::VALUES;
 use rule::Kind;
 use rule::Opening;
 use rule::Settings;
@@ -37,7 +41,7 @@ fn kind_of(number: u64) -> Kind {
     }
 }
 
-fn size_of(given: &[u64; 14]) -> Size {
+fn size_of(given: &[u64; 17]) -> Size {
     if given[BY] == 0 {
         Size::Steps(given[SIZE] as usize)
     } else {
@@ -45,7 +49,7 @@ fn size_of(given: &[u64; 14]) -> Size {
     }
 }
 
-fn opening_of(given: &[u64; 14]) -> Opening {
+fn opening_of(given: &[u64; 17]) -> Opening {
     let kind = kind_of(given[0]);
     let size = size_of(given);
     Opening {
@@ -55,7 +59,7 @@ fn opening_of(given: &[u64; 14]) -> Opening {
     }
 }
 
-fn settings_of(given: &[u64; 14]) -> Settings {
+fn settings_of(given: &[u64; 17]) -> Settings {
     let kind = kind_of(given[0]);
     Settings {
         kind,
@@ -64,7 +68,7 @@ fn settings_of(given: &[u64; 14]) -> Settings {
     }
 }
 
-fn trace_of(given: &[u64; 14]) -> Trace {
+fn trace_of(given: &[u64; 17]) -> Trace {
     Trace {
         state: State {
             settings: settings_of(given),
@@ -76,7 +80,7 @@ fn trace_of(given: &[u64; 14]) -> Trace {
 }
 
 // What names that are not given stand for: the state at hand, else 0.
-fn at_hand(trace: Trace) -> [u64; 14] {
+fn at_hand(trace: Trace) -> [u64; 17] {
     let state = trace.state;
     let settings = state.settings;
     let kind = settings.kind;
@@ -87,6 +91,9 @@ fn at_hand(trace: Trace) -> [u64; 14] {
         state.used as u64,
         state.runs as u64,
         state.readings as u64,
+        0,
+        0,
+        0,
         0,
         0,
         0,
@@ -121,11 +128,11 @@ fn signed32(bits: u32) -> i32 {
     }
 }
 
-fn value(given: &[u64; 14]) -> i32 {
+fn value(given: &[u64; 17]) -> i32 {
     signed32((given[VALUE] % 4294967296) as u32)
 }
 
-fn tick(given: &[u64; 14]) -> u32 {
+fn tick(given: &[u64; 17]) -> u32 {
     (given[TICK] % 4294967296) as u32
 }
 
@@ -159,7 +166,19 @@ fn take(file: &mut [u8], output: &[u8], count: usize) {
     }
 }
 
-fn call(word: u64, given: &[u64; 14], trace: Trace, room: &mut [i64], file: &[u8]) -> Answer {
+fn put_tick(ticks: &mut [u32], at: usize, tick: u32) {
+    if at < ticks.len() {
+        ticks[at] = tick;
+    }
+}
+
+fn put_value(values: &mut [i32], at: usize, value: i32) {
+    if at < values.len() {
+        values[at] = value;
+    }
+}
+
+fn call(word: u64, given: &[u64; 17], trace: Trace, room: &mut [i64], file: &[u8]) -> Answer {
     match word {
         line::OPEN => Trace::open(opening_of(given), &mut *room),
         line::NEXT => trace.next(&mut *room, value(given)),
@@ -169,7 +188,7 @@ fn call(word: u64, given: &[u64; 14], trace: Trace, room: &mut [i64], file: &[u8
 }
 
 // A reading, which hands back the trace that it was given where it is refused.
-fn read_on(word: u64, given: &[u64; 14], trace: Trace, room: &mut [i64]) -> Trace {
+fn read_on(word: u64, given: &[u64; 17], trace: Trace, room: &mut [i64]) -> Trace {
     let answer = call(word, given, trace, room, b"");
     show::answer(word, trace, answer);
     show::numbers(b" room ", room);
@@ -177,10 +196,41 @@ fn read_on(word: u64, given: &[u64; 14], trace: Trace, room: &mut [i64]) -> Trac
     taken(trace, answer)
 }
 
+// Many readings in order, which hand back the trace after the accepted ones.
+fn next_many(given: &[u64; 17], trace: Trace, room: &mut [i64], values: &[i32]) -> Trace {
+    let from = least(given[FROM] as usize, values.len());
+    let count = least(given[VALUES] as usize, values.len() - from);
+    let progress = many::next(trace, &mut *room, &values[from..from + count]);
+    show::fed(b"nextmany", progress);
+    show::numbers(b" room ", room);
+    show::text(b"\n");
+    progress.trace
+}
+
+// Many late ones.
+fn late_many(
+    given: &[u64; 17],
+    trace: Trace,
+    room: &mut [i64],
+    ticks: &[u32],
+    values: &[i32],
+) -> Trace {
+    let first = least(given[FROM] as usize, ticks.len());
+    let count = least(given[TICKS] as usize, ticks.len() - first);
+    let lent = &ticks[first..first + count];
+    let from = least(given[FROM] as usize, values.len());
+    let more = least(given[VALUES] as usize, values.len() - from);
+    let progress = many::late(trace, &mut *room, lent, &values[from..from + more]);
+    show::fed(b"latemany", progress);
+    show::numbers(b" room ", room);
+    show::text(b"\n");
+    progress.trace
+}
+
 // An open or a load, which has none to hand back.
-fn begin(word: u64, given: &[u64; 14], trace: Trace, room: &mut [i64], file: &[u8]) -> Trace {
+fn begin(word: u64, given: &[u64; 17], trace: Trace, room: &mut [i64], file: &[u8]) -> Trace {
     let answer = call(word, given, trace, room, file);
-    show::answer(word, trace_of(&[0; 14]), answer);
+    show::answer(word, trace_of(&[0; 17]), answer);
     show::numbers(b" room ", room);
     if word == line::LOAD {
         show::bytes(b" file ", file);
@@ -190,12 +240,22 @@ fn begin(word: u64, given: &[u64; 14], trace: Trace, room: &mut [i64], file: &[u
 }
 
 // What hands back a trace.
-fn go_on(word: u64, given: &[u64; 14], held: Held, room: &mut [i64], file: &[u8]) -> Trace {
+fn go_on(
+    word: u64,
+    given: &[u64; 17],
+    held: Held,
+    room: &mut [i64],
+    file: &[u8],
+    ticks: &[u32],
+    values: &[i32],
+) -> Trace {
     let numbers = least(held.numbers, room.len());
     let bytes = least(held.bytes, file.len());
     match word {
         line::NEXT => read_on(word, given, held.trace, &mut room[0..numbers]),
         line::LATE => read_on(word, given, held.trace, &mut room[0..numbers]),
+        line::NEXT_MANY => next_many(given, held.trace, &mut room[0..numbers], values),
+        line::LATE_MANY => late_many(given, held.trace, &mut room[0..numbers], ticks, values),
         line::OPEN => begin(
             word,
             given,
@@ -215,13 +275,13 @@ fn go_on(word: u64, given: &[u64; 14], held: Held, room: &mut [i64], file: &[u8]
     }
 }
 
-fn look(given: &[u64; 14], trace: Trace, room: &[i64]) {
+fn look(given: &[u64; 17], trace: Trace, room: &[i64]) {
     show::found(trace.lookup(room, tick(given)));
     show::numbers(b" room ", room);
     show::text(b"\n");
 }
 
-fn save(given: &[u64; 14], trace: Trace, room: &[i64], output: &mut [u8]) {
+fn save(given: &[u64; 17], trace: Trace, room: &[i64], output: &mut [u8]) {
     let count = least(given[BYTES] as usize, output.len());
     show::written(saved::save(trace, room, &mut output[0..count]));
     show::numbers(b" room ", room);
@@ -236,7 +296,7 @@ fn measure(trace: Trace, room: &[i64]) {
 }
 
 // A call that leaves the trace.
-fn ask(word: u64, given: &[u64; 14], held: Held, room: &[i64], output: &mut [u8]) {
+fn ask(word: u64, given: &[u64; 17], held: Held, room: &[i64], output: &mut [u8]) {
     let lent = &room[0..least(held.numbers, room.len())];
     match word {
         line::LOOKUP => look(given, held.trace, lent),
@@ -246,7 +306,20 @@ fn ask(word: u64, given: &[u64; 14], held: Held, room: &[i64], output: &mut [u8]
     }
 }
 
-fn change(word: u64, given: &[u64; 14], room: &mut [i64], file: &mut [u8], output: &[u8]) {
+fn change(
+    word: u64,
+    given: &[u64; 17],
+    room: &mut [i64],
+    file: &mut [u8],
+    output: &[u8],
+    ticks: &mut [u32],
+    values: &mut [i32],
+) {
+    if word == line::READING {
+        put_tick(ticks, given[AT] as usize, tick(given));
+        put_value(values, given[AT] as usize, value(given));
+        return;
+    }
     if word == line::SET {
         put(room, given[AT] as usize, given[VALUE]);
         return;
@@ -261,7 +334,7 @@ fn change(word: u64, given: &[u64; 14], room: &mut [i64], file: &mut [u8], outpu
 }
 
 // How much is lent from now on.
-fn lent(word: u64, given: &[u64; 14], held: Held) -> Held {
+fn lent(word: u64, given: &[u64; 17], held: Held) -> Held {
     let mut next = held;
     if word == line::ROOM {
         next.numbers = given[NUMBERS] as usize;
@@ -274,16 +347,18 @@ fn lent(word: u64, given: &[u64; 14], held: Held) -> Held {
 
 fn obey(
     word: u64,
-    given: &[u64; 14],
+    given: &[u64; 17],
     held: Held,
     room: &mut [i64],
     file: &mut [u8],
     output: &mut [u8],
+    ticks: &mut [u32],
+    values: &mut [i32],
 ) -> Held {
-    change(word, given, room, file, output);
+    change(word, given, room, file, output, ticks, values);
     let mut next = lent(word, given, held);
     ask(word, given, next, room, output);
-    let trace = go_on(word, given, next, room, file);
+    let trace = go_on(word, given, next, room, file, ticks, values);
     next.trace = trace;
     next
 }
@@ -292,16 +367,27 @@ fn obey(
 fn turn(
     byte: u8,
     held: Held,
-    given: &mut [u64; 14],
+    given: &mut [u64; 17],
     room: &mut [i64],
     file: &mut [u8],
     output: &mut [u8],
+    ticks: &mut [u32],
+    values: &mut [i32],
 ) -> Held {
     let reading = held.reading;
     let mut next = held;
     if byte == 10 {
         line::put(given, reading);
-        next = obey(reading.ended().word, given, held, room, file, output);
+        next = obey(
+            reading.ended().word,
+            given,
+            held,
+            room,
+            file,
+            output,
+            ticks,
+            values,
+        );
         *given = at_hand(next.trace);
         next.reading = line::nothing();
         return next;
@@ -315,8 +401,15 @@ fn turn(
     next
 }
 
-fn run(script: &[u8], room: &mut [i64], file: &mut [u8], output: &mut [u8]) {
-    let mut given = [0; 14];
+fn run(
+    script: &[u8],
+    room: &mut [i64],
+    file: &mut [u8],
+    output: &mut [u8],
+    ticks: &mut [u32],
+    values: &mut [i32],
+) {
+    let mut given = [0; 17];
     let mut held = Held {
         trace: trace_of(&given),
         numbers: 0,
@@ -327,7 +420,7 @@ fn run(script: &[u8], room: &mut [i64], file: &mut [u8], output: &mut [u8]) {
     while i < script.len() {
         let byte = script[i];
         i += 1;
-        held = turn(byte, held, &mut given, room, file, output);
+        held = turn(byte, held, &mut given, room, file, output, ticks, values);
     }
 }
 
@@ -335,7 +428,16 @@ fn main() {
     let mut room = [0i64; 8192];
     let mut file = [0u8; 65536];
     let mut output = [0u8; 65536];
+    let mut ticks = [0u32; 4096];
+    let mut values = [0i32; 4096];
     let mut script = io::large_buffer();
     let count = io::read_full(libc::STDIN_FILENO, &mut script);
-    run(&script[0..count], &mut room, &mut file, &mut output);
+    run(
+        &script[0..count],
+        &mut room,
+        &mut file,
+        &mut output,
+        &mut ticks,
+        &mut values,
+    );
 }

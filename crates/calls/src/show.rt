@@ -1,5 +1,7 @@
 // The lines that are written: what a call answers, and the checksum of what it was lent.
 use crate::line;
+use many::Ending;
+use many::Progress;
 use rule::Found;
 use rule::Kind;
 use rule::Measured;
@@ -71,6 +73,17 @@ pub(crate) fn answer(word: u64, given: Trace, answer: Answer) {
             state(given);
         }
     }
+}
+
+pub(crate) fn fed(name: &[u8], progress: Progress) {
+    text(name);
+    let ending = progress.ending;
+    match ending {
+        Ending::Whole => text(b" 0 0"),
+        Ending::Refused(refusal) => refused(refusal),
+    }
+    state(progress.trace);
+    unsigned(progress.accepted as u64);
 }
 
 pub(crate) fn found(found: Found) {

@@ -10,7 +10,8 @@ use trace::Trace;
 // Where a count stops.
 const STOP: u32 = 4294967295;
 
-fn grown(count: u32, by: usize) -> u32
+// A count that has grown stops at the most.
+pub fn grown(count: u32, by: usize) -> u32
     ensures { λ r. ⌜ r ≡ grown count by ⌝ }
 {
     let left = STOP - count;
@@ -21,14 +22,18 @@ fn grown(count: u32, by: usize) -> u32
     }
 }
 
-// before + 1 need not fit, so the one is added last.
-fn merged(count: u32, before: usize, after: usize) -> u32
-    ensures { λ r. ⌜ r ≡ grown count (before + 1 - after) ⌝ }
+// The merges counted, of so many slots in use before and after, and so many buckets brought. before + brought need not fit, so what was brought is added last.
+pub fn merged(count: u32, before: usize, brought: usize, after: usize) -> u32
+    ensures { λ r. ⌜ r ≡ grown count (before + brought - after) ⌝ }
 {
-    if before < after {
+    if after <= before {
+        return grown(grown(count, before - after), brought);
+    }
+    let more = after - before;
+    if brought < more {
         grown(count, 0)
     } else {
-        grown(grown(count, before - after), 1)
+        grown(count, brought - more)
     }
 }
 
@@ -40,7 +45,7 @@ pub fn counted(t: Tally, trace: Trace, a: Answer) -> Tally
         Answer::Accepted(after) => Tally {
             accepted: grown(t.accepted, 1),
             refused: t.refused,
-            merges: merged(t.merges, trace.state.used, after.state.used),
+            merges: merged(t.merges, trace.state.used, 1, after.state.used),
         },
         Answer::Refused(_) => Tally {
             accepted: t.accepted,

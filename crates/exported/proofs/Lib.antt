@@ -4,3 +4,4 @@ pub mod Searching
 pub mod Reaching
 pub mod Exporting
 pub mod Replays
+pub mod Many

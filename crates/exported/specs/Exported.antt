@@ -103,7 +103,7 @@ pub record ExportedDemand1 : Type 0 where
   pub same-open : (kind b gaps n : ℕ) (l : List ℤ) → openReply (record { kind = kind; size = b; gaps = gaps; by = 0 }) l ≡ openReply (record { kind = kind; size = 2 * b; gaps = gaps; by = suc n }) l
   pub same-load : (kind b gaps n : ℕ) (file : List ℕ) (l : List ℤ)
       → loadReply (record { kind = kind; size = b; gaps = gaps; by = 0 }) file l ≡ loadReply (record { kind = kind; size = 2 * b; gaps = gaps; by = suc n }) file l
-  -- the zeros that a refused open, load or replay hands back are sound in no room, so no call accepts them
+  -- the zeros that a refused open, load or replay hands back are sound in no room, so no reading and no look accepts them
   pub unsound : (l : List ℤ) → sound (stateFrom none) l ≡ false
   pub unusable : (l : List ℤ) (tick last : ℕ) (v : ℤ) (out : List Bucket) (bytes : List ℕ)
       → nextReply none l v .0 .refusal ∷ lateReply none l tick v .0 .refusal ∷ lookupReply none l tick .refusal ∷ searchReply none l tick last v .refusal ∷ worstReply none l .refusal ∷ rowReply none l out .0 .refusal ∷ saveReply none l bytes .0 .refusal ∷ []
@@ -125,7 +125,7 @@ pub record ExportedSearch : Type 0 where
 -- ---- demands 2 and 3
 
 -- What a caller can reach from ndz_open with the settings named, each call getting the state and the room as the last one left them:
--- the caller has the state f, and the room holds l, after the accepted readings rs, newest first. Lookup, first_over, worst, row and save write neither, and a tallied reading is the reading, for state and room.
+-- the caller has the state f, and the room holds l, after the accepted readings rs, newest first. Lookup, first_over, worst, row and save write neither, and a tallied reading is the reading, for state and room; what many readings at one call leave is among this too, says Many.antt.
 pub data Called (named : Named) : List Reading → Fields → List ℤ → Type 0 where
   -- opened empty, in any room
   opens : {r : Reply} {m : List ℤ} (l : List ℤ) → openReply named l ≡ (r, m) → r .refusal ≡ 0 → Called named [] (r .state) m

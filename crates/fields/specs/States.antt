@@ -32,6 +32,6 @@ stateFrom f = record { settings = record { kind = kindOf (f .kind); base = f .ba
 abbrev pub fieldsOf : State → Fields
 fieldsOf s = record { kind = numberOf (s .settings .kind); base = s .settings .base; gaps = s .settings .gaps; used = s .used; runs = s .runs; readings = s .readings }
 
--- the state that a refused open, load or replay answers: no call accepts it
+-- the state that a refused open, load or replay answers: no reading and no look accepts it
 abbrev pub none : Fields
 none = record { kind = 0; base = 0; gaps = 0; used = 0; runs = 0; readings = 0 }

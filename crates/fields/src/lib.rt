@@ -102,7 +102,7 @@ pub fn fields_of(s: State) -> Fields
     }
 }
 
-// The state that a refused open, load or replay answers: no call accepts it.
+// The state that a refused open, load or replay answers: no reading and no look accepts it.
 pub fn none() -> Fields
     ensures { λ r. ⌜ r ≡ none ⌝ }
 {

@@ -18,9 +18,9 @@ use Rattle.rule.specs.declared.State.{State}
 use Rattle.rule.specs.declared.Found.{Found}
 use Rattle.rule.specs.Bucket.{end, error, level, spread}
 use Rattle.rule.specs.Bytes.{recordsOf, saved}
-use Rattle.rule.specs.Calls.{Verdict, accepted, baseOf, checked, foundOf, found, gapsKept, isHeld, kept, late, lateVerdict, loaded, loadVerdict, lookupOutcome, nextVerdict, admitted, stateOf, traced}
+use Rattle.rule.specs.Calls.{Verdict, accepted, baseOf, checked, foundOf, found, gapsKept, isHeld, kept, late, lateVerdict, loaded, loadVerdict, lookupOutcome, nextOutcome, nextVerdict, admitted, stateOf, traced}
 use Rattle.rule.specs.Numbers.{mostBase, recordWidth, slotWidth, ticks}
-use Rattle.rule.specs.Room.{laid, slots, sound, tableOf}
+use Rattle.rule.specs.Room.{laid, signed, slots, sound, tableOf}
 use Rattle.rule.specs.Table.{Table, Ordered, accept, holders, holding, holds, lastEnd, limit, limitOver, needed, nextTick, readings, runs}
 use Rattle.rule.specs.Rules.{follows}
 use Rattle.rule.proofs.Ruling.{Ruled}
@@ -41,11 +41,14 @@ use Rattle.rooms.proofs.Leaving.{late-either, late-leaves, next-either, next-le
 use Rattle.demands.specs.History.{Accepted, Reading, Takes, arrived, runsOf, tableAfter}
 use Rattle.demands.specs.Served.{Served}
 use Rattle.demands.proofs.Instance.{demand3 as of-tables, instance-length}
-use Rattle.promises.specs.Reached.{Reached, SameSettings, late-refused, lates, load-refused, loads, next-refused, nexts, open-refused, opens, replay-refused}
+use Rattle.series.specs.Promise.{AllSigned, AllTimed}
+use Rattle.series.specs.Series.{Fed, lateCall, lateMany, nextCall, nextMany}
+use Rattle.series.proofs.Taking.{fed-ind}
+use Rattle.promises.specs.Reached.{Reached, SameSettings, atTheirTicks, inOrderFrom, late-refused, lates, load-refused, loads, next-refused, nexts, open-refused, opens, replay-refused}
 use Rattle.answered.specs.Answered.{baseNamed, namedBy, slotsNeeded}
 use Rattle.promises.specs.Demands.{Demand2, Demand3, Upheld}
 use Rattle.answered.proofs.Answering.{base-is, limit-named, needed-is}
-use Rattle.answered.proofs.Outcomes.{bytes-written}
+use Rattle.answered.proofs.Outcomes.{bytes-written, next-in-order}
 use Rattle.rooms.proofs.Outcomes.{accepted-is, not-accepted, traced-refused}
 use Rattle.logger.proofs.Along.{replay-refused as replay-leaves}
 use Rattle.promises.proofs.Replays.{replay-reached}
@@ -287,11 +290,50 @@ demand2 = record {
   loaded-saved = loaded-saved;
 }
 
+-- ---- many readings at one call
+
+-- an accepted reading in order moves the next tick by one
+next-moves : {g : Opening} {rs : List Reading} {s t : State} {l m : List ℤ} (v : ℤ) → signed v ≡ true → Reached g rs s l → nextOutcome s l v ≡ (accepted t, m) → nextTick (tableOf t m) ≡ nextTick (tableOf s l) + 1
+next-moves {g} {rs} {s} {t} {l} {m} v range r e =
+    let k = keeps r in
+    let in-order : late (g .kind) ≡ false = sym (ap (λ (x : Settings). late (x .kind)) (k .named)) ∙ next-in-order s l v e in
+    omega (arith, k .next in-order, keeps (nexts v range r e) .next in-order)
+
+module _ (g : Opening) where
+  abbrev NextReached : State → List ℤ → List ℤ → Fed → Type 0
+  NextReached s l vs f = AllSigned vs → (rs : List Reading) → Reached g rs s l → Reached g (inOrderFrom (nextTick (tableOf s l)) (take (f .accepted) vs) rs) (f .state) (f .room)
+
+  next-reached : (s : State) (l vs : List ℤ) → NextReached s l vs (nextMany s l vs)
+  unfolding inOrderFrom
+  next-reached =
+      fed-ind nextCall NextReached
+      (λ s l q rs p. p)
+      (λ s l v vs r m e q rs p. next-refused v p e)
+      (λ s l v vs t m e ih q rs p.
+      let range = q v (List·Memᴰ·head refl) in
+      let f = nextMany t m vs in
+      let first : Reading = record { tick = nextTick (tableOf s l); value = v } in
+      subst (λ (n : ℕ). Reached g (inOrderFrom n (take (f .accepted) vs) (first ∷ rs)) (f .state) (f .room)) (next-moves v range p e)
+      (ih (λ w i. q w (List·Memᴰ·tail i)) (first ∷ rs) (nexts v range p e)))
+
+  abbrev LateReached : State → List ℤ → List (ℕ × ℤ) → Fed → Type 0
+  LateReached s l ws f = AllTimed ws → (rs : List Reading) → Reached g rs s l → Reached g (atTheirTicks (take (f .accepted) ws) rs) (f .state) (f .room)
+
+  late-reached : (s : State) (l : List ℤ) (ws : List (ℕ × ℤ)) → LateReached s l ws (lateMany s l ws)
+  unfolding atTheirTicks
+  late-reached =
+      fed-ind lateCall LateReached
+      (λ s l q rs p. p)
+      (λ s l w ws r m e q rs p. late-refused (w .0) (w .1) p e)
+      (λ s l w ws t m e ih q rs p. ih (λ x i. q x (List·Memᴰ·tail i)) (record { tick = w .0; value = w .1 } ∷ rs) (lates (w .0) (w .1) (q w (List·Memᴰ·head refl)) p e))
+
 pub demand3 : Demand3
 unfolding baseNamed
 demand3 = record {
   begins = λ g l e. opens l e;
   replays = replay-reached;
+  next-many = λ {g} {rs} {s} {l} r vs q. next-reached g s l vs q rs r;
+  late-many = λ {g} {rs} {s} {l} r ws q. late-reached g s l ws q rs r;
   picture-of-base = λ r c E few near. keeps r .picture c E (omega arith) near;
   picture-of-steps = λ r c E few near. keeps r .picture c E (omega arith) near;
   size-of-base = λ r. omega (arith, keeps r .size);

@@ -26,7 +26,9 @@ use Rattle.demands.specs.History.{Reading, arrived, runsOf, tableAfter}
 use Rattle.demands.specs.Served.{Extremes, Near}
 use Rattle.answered.specs.Answered.{baseNamed, mostSteps, namedBy, slotsNeeded}
 use Rattle.logger.specs.Replay.{Course, replayOutcome}
-use Rattle.promises.specs.Reached.{Reached, SameSettings, readingsOf}
+use Rattle.series.specs.Promise.{AllSigned, AllTimed}
+use Rattle.series.specs.Series.{lateMany, nextMany}
+use Rattle.promises.specs.Reached.{Reached, SameSettings, atTheirTicks, inOrderFrom, readingsOf}
 
 -- lookup itself answers, at the reading's tick, a level within E of the reading
 pub record Seen (E : ℕ) (s : State) (l : List ℤ) (r : Reading) : Type 0 where
@@ -96,6 +98,11 @@ pub record Demand3 : Type 0 where
   -- and of every accepted replay: what it leaves is reached by the opening of a late trace and its accepted records, each a late reading at its tick
   pub replays : (size : Size) (gaps : ℕ) (recording : List ℕ) (l : List ℤ) {c : Course} {m : List ℤ} → replayOutcome size gaps recording l ≡ (accepted c, m)
       → Reached (record { kind = Late; size = size; gaps = gaps }) (readingsOf (c .landed)) (c .state) m
+  -- and after many readings at one call, refused or not: what it leaves is reached, with the accepted ones as readings, in order at the ticks that come next, late each at its own
+  pub next-many : {g : Opening} {rs : List Reading} {s : State} {l : List ℤ} → Reached g rs s l → (vs : List ℤ) → AllSigned vs → let f = nextMany s l vs in
+      Reached g (inOrderFrom (nextTick (tableOf s l)) (take (f .accepted) vs) rs) (f .state) (f .room)
+  pub late-many : {g : Opening} {rs : List Reading} {s : State} {l : List ℤ} → Reached g rs s l → (ws : List (ℕ × ℤ)) → AllTimed ws → let f = lateMany s l ws in
+      Reached g (atTheirTicks (take (f .accepted) ws) rs) (f .state) (f .room)
   -- of a trace opened with C, for every curve of at most (C + 1) / 2 flat steps, rounded down: where all readings are within E of it, lookup shows each within E, and the worst error is at most E
   pub picture-of-base : {k : Kind} {base gaps : ℕ} {rs : List Reading} {s : State} {l : List ℤ} → Reached (record { kind = k; size = Base base; gaps = gaps }) rs s l
       → (c : Curve) (E : ℕ) → steps c ≤ (base + 1) / 2 → Near E c rs → ((r : Reading) → List·Memᴰ r rs → Seen E s l r) × (worst (tableOf s l) ≤ E)

@@ -1,5 +1,5 @@
 -- What a caller can reach from an open, each call getting the state and the room as the last one left them.
-use Prim.Native.Nat.{ℕ, _*_}
+use Prim.Native.Nat.{ℕ, _+_, _*_}
 use mathlib.Core.Path.{_≡_}
 use mathlib.Core.Bool.{true}
 use mathlib.Core.List.{List, [], _∷_}
@@ -46,3 +46,13 @@ pub data Reached (g : Opening) : List Reading → State → List ℤ → Type 0 
 unfoldable pub readingsOf : List Landed → List Reading
 readingsOf [] = []
 readingsOf (w ∷ ws) = record { tick = natAbs (w .tick); value = w .value } ∷ readingsOf ws
+
+-- readings with the ticks n, n + 1, n + 2 and so on, put before those there were
+unfoldable pub inOrderFrom : ℕ → List ℤ → List Reading → List Reading
+inOrderFrom n [] rs = rs
+inOrderFrom n (v ∷ vs) rs = inOrderFrom (n + 1) vs (record { tick = n; value = v } ∷ rs)
+
+-- readings each with its own tick, put before those there were
+unfoldable pub atTheirTicks : List (ℕ × ℤ) → List Reading → List Reading
+atTheirTicks [] rs = rs
+atTheirTicks (w ∷ ws) rs = atTheirTicks ws (record { tick = w .0; value = w .1 } ∷ rs)

@@ -55,7 +55,7 @@ unfolding readings
 readings-one [] y a = omega arith
 readings-one (c ∷ x) y a = omega (arith, readings-one x y a)
 
-readings-pair : (x y : Table) (a b : Bucket) → a .count + b .count ≤ readings (x ++ (a ∷ b ∷ y))
+pub readings-pair : (x y : Table) (a b : Bucket) → a .count + b .count ≤ readings (x ++ (a ∷ b ∷ y))
 unfolding readings
 readings-pair [] y a b = omega arith
 readings-pair (c ∷ x) y a b = omega (arith, readings-pair x y a b)

@@ -79,7 +79,7 @@ unfoldable pub Below : Choice → Type 0
 Below nothing = Unit {0}
 Below (pair i s) = s < word
 
-distance-below : {a b : ℤ} → SFits w32 a → SFits w32 b → distance a b < word
+pub distance-below : {a b : ℤ} → SFits w32 a → SFits w32 b → distance a b < word
 distance-below {a} {b} f g = omega (whole, distance-is a b)
 
 below-cheaper : (p q : Choice) → Below p → Below q → Below (cheaper p q)

@@ -39,6 +39,12 @@ unfolding Below better placeOf
 better-place nothing h = refl
 better-place (pair i s) h = rw (lt-leb word s h)
 
+-- and so is the cost
+pub better-cost : (q : Choice) → Below q → better unmet q .cost ≡ costOf q
+unfolding Below better costOf
+better-cost nothing h = refl
+better-cost (pair i s) h = rw (lt-leb word s h)
+
 -- two buckets, by what they cost
 module _ (b : Best) (p : ℕ) (x y : Bucket) where
   abbrev cost : Bool → ℕ

@@ -10,13 +10,13 @@ use Rattle.rule.specs.Numbers.{word}
 use Rattle.rule.specs.Room.{numbers, slot, slots}
 use Rattle.rule.specs.Table.{Table, cheaper, cheapest, choice}
 use Rattle.rule.proofs.Fitting.{Fitted, fitted-place}
-use Rattle.rooms.specs.Slots.{Filled, placeOf, putAt}
+use Rattle.rooms.specs.Slots.{Filled, costOf, placeOf, putAt}
 use Rattle.rooms.proofs.Fitting.{fitted-slots}
 use Rattle.rooms.proofs.Laying.{length-slots, slots-last, slots-with}
 use Rattle.rooms.proofs.Scoring.{cheaper-assoc, cheaper-nothing, cheapest-below, cheapest-last, cheapest-next, cheapest-split, slots-next}
 use Rattle.scan.specs.declared.Best.{Best}
 use Rattle.scan.specs.Best.{better, unmet}
-use Rattle.scan.proofs.Keeping.{better-both, better-low, better-place}
+use Rattle.scan.proofs.Keeping.{better-both, better-cost, better-low, better-place}
 
 -- at slot i: the best so far, and what is left to look at, make the whole
 pub record Passed (l : List ℤ) (from to shift : ℕ) (met best : Best) (i : ℕ) : Type 0 where
@@ -63,10 +63,13 @@ module _ (l : List ℤ) (b : Bucket) where
       rw (slots-with l n at b (omega arith), slots-next l n at h, add-one at)
       (cheaper-assoc (cheapest 0 (x ++ (b ∷ []))) (choice at b (slot l at)) (cheapest (suc at) (slot l at ∷ y)) ∙ sym (cheapest-split 0 at x b (slot l at ∷ y) (omega (arith, length-slots l 0 at))))
 
--- ---- the place that a pass over everything ends with
+-- ---- the place and the cost that a pass over everything ends with
 
 pub place-of : (t : Table) → Fitted t → better unmet (cheapest 0 t) .place ≡ placeOf (cheapest 0 t)
 place-of t f = better-place (cheapest 0 t) (cheapest-below 0 t f)
+
+pub cost-of : (t : Table) → Fitted t → better unmet (cheapest 0 t) .cost ≡ costOf (cheapest 0 t)
+cost-of t f = better-cost (cheapest 0 t) (cheapest-below 0 t f)
 
 pub fitted-with : (l : List ℤ) (n at : ℕ) (b : Bucket) → Filled l n → Filled (numbers b) 1 → Fitted (putAt at b (slots l 0 n))
 unfolding Fitted slots slot

@@ -26,12 +26,17 @@ pub fn cheapest(room: &[i64], used: usize) -> usize
     requires { ⌜ Filled (now room) used ⌝ }
     ensures { λ r. ⌜ r ≡ placeOf (cheapest 0 (slots (now (room .entry)) 0 used)) ⌝ }
 {
-    let none = Best {
-        place: 0,
-        cost: ABOVE,
-    };
-    let all = pass(room, 0, used, 0, none);
+    let all = scanned(room, used);
     all.place
+}
+
+// What the cheapest neighbours among the first `used` slots cost; above every spread where there are none.
+pub fn least_cost(room: &[i64], used: usize) -> u64
+    requires { ⌜ Filled (now room) used ⌝ }
+    ensures { λ r. ⌜ r ≡ costOf (cheapest 0 (slots (now (room .entry)) 0 used)) ⌝ }
+{
+    let met = scanned(room, used);
+    met.cost
 }
 
 // The place of the cheapest neighbours among the first `used` slots with the bucket put at place `at`.
@@ -46,6 +51,18 @@ pub fn cheapest_with(room: &[i64], used: usize, at: usize, b: Bucket) -> usize
     let with_next = better(up_to_it, at, b, read(room, at));
     let all = pass(room, at, used, 1, with_next);
     all.place
+}
+
+// The cheapest neighbours among the first `used` slots.
+pub(crate) fn scanned(room: &[i64], used: usize) -> Best
+    requires { ⌜ Filled (now room) used ⌝ }
+    ensures { λ r. ⌜ r ≡ better unmet (cheapest 0 (slots (now (room .entry)) 0 used)) ⌝ }
+{
+    let none = Best {
+        place: 0,
+        cost: ABOVE,
+    };
+    pass(room, 0, used, 0, none)
 }
 
 // The cheapest neighbours among the first `at` slots with the bucket behind them.

@@ -45,8 +45,8 @@ impl Trace {
         }
     }
 
-    // The state after a reading whose effect on the room is `accept`'s.
-    pub(crate) fn accept(
+    // A reading of which the place, the runs there are with it and the tick are known: for whoever knows that the trace is sound and the reading is taken.
+    pub fn accept(
         mut self,
         room: &mut [i64],
         at: usize,

@@ -9,7 +9,7 @@ use crate::script::{nearest_base, Script};
 /// So many opens and as many loads of each size and kind, of which every sixth is in a room that is short.
 pub(super) const OF_EACH_SIZE: usize = 126;
 /// So many of each size that would do if some of its bits were lost, and of each kind.
-const OF_EACH_WIDE: usize = 28;
+const OF_EACH_WIDE: usize = 50;
 /// Traces that are saved and loaded.
 const RELOADED: usize = 240;
 /// Rounds of states of any base limit.

@@ -168,18 +168,48 @@ impl Script {
         }
     }
 
-    /// Of the trace's kind; a late one is often next to a bucket.
+    /// Of the trace's kind, now and then some of them at one call; a late one is often next to a bucket.
     fn reading(&mut self) {
+        if self.chance(8) {
+            self.some_readings();
+            return;
+        }
         let value = self.value();
         let word = self.reading_word(self.session.state.kind);
-        let tick = match self.ticks() {
+        let tick = self.tick_to_read();
+        self.read(word, tick, value);
+    }
+
+    fn tick_to_read(&mut self) -> u32 {
+        match self.ticks() {
             Some((start, end)) if !self.chance(3) => {
                 let beside = [start.wrapping_sub(1), end, end.wrapping_add(1)];
                 self.random.choice(&beside)
             }
             _ => self.random.below(60) as u32,
-        };
-        self.read(word, tick, value);
+        }
+    }
+
+    /// Seldom of the other kind; late ones by ticks that follow each other or do not, in lists of one length or two.
+    fn some_readings(&mut self) {
+        let late = (self.session.state.kind == Kind::Late) != self.chance(12);
+        let count = self.random.below(9) as usize;
+        let from = self.random.choice(&[0, 0, 1, 4_090]);
+        let mut tick = self.tick_to_read();
+        for at in from..from + count {
+            let value = self.value();
+            self.listed(at as u64, tick, value);
+            tick = match self.random.below(6) {
+                0 => self.tick_to_read(),
+                _ => tick.wrapping_add(1),
+            };
+        }
+        if late {
+            let other = self.random.choice(&[count, count, count + 1, count / 2]);
+            self.late_many(from, count, other);
+        } else {
+            self.next_many(from, count);
+        }
     }
 
     fn refused_reading(&mut self) {

@@ -7,6 +7,7 @@ pub mod chance;
 pub mod files;
 pub mod late;
 pub mod long;
+pub mod many;
 pub mod next;
 pub mod replay;
 pub mod search;
@@ -19,9 +20,9 @@ use crate::arrivals::ARRIVALS;
 use crate::script::Script;
 
 /// The scripts that are one and the same each time; besides them there is one by chance for each seed.
-pub const NAMES: [&str; 13] = [
-    "arrivals", "base", "buckets", "files", "late", "long", "next", "replay", "search", "sessions",
-    "settings", "short", "unsound",
+pub const NAMES: [&str; 14] = [
+    "arrivals", "base", "buckets", "files", "late", "long", "many", "next", "replay", "search",
+    "sessions", "settings", "short", "unsound",
 ];
 
 /// Nothing for another name.
@@ -33,6 +34,7 @@ pub fn of_name(name: &str) -> Option<Script> {
         "files" => files::write,
         "late" => late::write,
         "long" => long::write,
+        "many" => many::write,
         "next" => next::write,
         "replay" => replay::write,
         "search" => search::write,
@@ -62,11 +64,16 @@ pub fn wanted_headings() -> Vec<(String, u64)> {
         (replay::LARGEST, 40),
         (replay::OVER_A_TRACE, 1_500),
         (replay::GONE_ON_AFTER, 2_000),
+        (many::OVER_THE_END, 2_000),
+        (many::IN_TURN, 2_000),
+        (many::OTHER_KIND, 1_000),
+        (many::ONE_REFUSED, 2_000),
     ] {
         wanted.push((heading.to_string(), calls));
     }
     for order in late::ORDERS {
         wanted.push((late::heading(order), 1_000));
+        wanted.push((many::heading(order), 250));
     }
     for arrivals in ARRIVALS {
         wanted.push((arrivals::heading(&arrivals), 2_000));

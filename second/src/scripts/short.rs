@@ -35,6 +35,7 @@ pub fn write(script: &mut Script) {
     }
     script.heading("# odd tables");
     script.short_odd();
+    script.many_by_hand(false);
     script.heading("# rows, saves and loads");
     script.short_outputs();
     script.heading("# unsound states and rooms");
@@ -144,12 +145,21 @@ impl Script {
         self.state(Name::Readings, rule::readings(table));
     }
 
+    /// Some readings and none.
+    fn short_many(&mut self) {
+        for count in [2, 0] {
+            self.next_many(0, count);
+            self.late_many(0, count, count);
+        }
+    }
+
     fn short_calls(&mut self) {
-        match self.random.below(5) {
+        match self.random.below(6) {
             0 => self.next(2),
             1 => self.late(30, 2),
             2 => self.lookup(1),
             3 => self.worst(),
+            4 => self.short_many(),
             _ => self.save(64),
         }
     }

@@ -8,7 +8,7 @@ use crate::rule::{self, Kind, TICKS};
 use crate::script::Script;
 use crate::session::NUMBERS;
 
-/// So many states and rooms for each clause, and ten calls of each.
+/// So many states and rooms for each clause, and fourteen calls of each.
 const OF_EACH: usize = 60;
 const TRIES: usize = 10_000;
 
@@ -124,6 +124,11 @@ impl Script {
         self.late(40, 1);
         self.read(Word::NextTold, 0, 1);
         self.read(Word::LateTold, 40, 1);
+        // Where there are no readings nothing is asked.
+        for count in [2, 0] {
+            self.next_many(0, count);
+            self.late_many(0, count, count);
+        }
         self.lookup(0);
         // The first bucket would be a hit, if it were answered before all is looked at.
         self.over(0, TICKS as u32 - 1, i32::MIN);

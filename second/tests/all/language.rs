@@ -271,6 +271,64 @@ show
 }
 
 #[test]
+fn many_readings_are_told_whole() {
+    let told = told::lines(
+        "room numbers=12
+open size=1
+reading value=1
+reading at=1 tick=1 value=4
+reading at=2 tick=4294967297 value=2
+reading at=3 tick=9 value=4294967305
+reading at=4096 tick=7 value=7
+reading at=18446744073709551615 tick=7 value=7
+nextmany
+nextmany values=4
+latemany ticks=1 values=1
+state readings=9
+nextmany from=3
+nextmany from=3 values=1
+room numbers=20
+open kind=7 size=1 gaps=2
+state kind=7
+latemany ticks=4
+latemany values=4
+nextmany values=4
+latemany ticks=3 values=9
+latemany from=4095 ticks=9 values=9
+latemany from=4096 ticks=9 values=9
+latemany from=3 ticks=18446744073709551615 values=1
+",
+    );
+    let zeros = |count| checksum(&vec![0; count]);
+    let h2 = checksum(&H2_ROOM);
+    // What H2 has left in the room is cleared by the open.
+    let late = |used: usize| {
+        let mut numbers = [0; 20];
+        let slots = [[0, 1, 1, 1], [1, 1, 4, 4], [9, 1, 9, 9]];
+        numbers[..4 * used].copy_from_slice(slots[..used].as_flattened());
+        checksum(&numbers)
+    };
+    let lines: Vec<&str> = told.lines().filter(|line| line.contains("many")).collect();
+    assert_eq!(
+        lines,
+        [
+            format!("nextmany 0 0 0 2 0 0 0 0 0 room {}", zeros(12)),
+            format!("nextmany 0 0 0 2 0 2 1 4 4 room {h2}"),
+            format!("latemany 5 0 0 2 0 2 1 4 0 room {h2}"),
+            format!("nextmany 0 0 0 2 0 2 1 9 0 room {h2}"),
+            format!("nextmany 4 0 0 2 0 2 1 9 0 room {h2}"),
+            format!("latemany 0 0 7 2 2 0 0 0 0 room {}", zeros(20)),
+            format!("latemany 0 0 7 2 2 0 0 0 0 room {}", zeros(20)),
+            format!("nextmany 5 0 7 2 2 0 0 0 0 room {}", zeros(20)),
+            format!("latemany 11 0 1 2 2 2 1 2 2 room {}", late(2)),
+            format!("latemany 11 0 1 2 2 2 1 2 0 room {}", late(2)),
+            format!("latemany 0 0 1 2 2 2 1 2 0 room {}", late(2)),
+            format!("latemany 0 0 1 2 2 3 2 3 1 room {}", late(3)),
+        ]
+    );
+}
+
+#[test]
 fn a_logger_s_record_past_the_end_is_not_written() {
     // Four bytes are left behind the last place.
     let told = told::lines(

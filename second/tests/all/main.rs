@@ -6,6 +6,7 @@ mod files;
 mod hand;
 mod language;
 mod lines;
+mod many;
 mod offset;
 mod over;
 mod refusals;

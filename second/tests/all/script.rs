@@ -48,6 +48,8 @@ fn every_script_is_obeyed_as_it_was_made() {
         assert_eq!(session.fields(), script.session.fields());
         assert_eq!(session.room, script.session.room);
         assert_eq!(session.file, script.session.file);
+        assert_eq!(session.ticks, script.session.ticks);
+        assert_eq!(session.values, script.session.values);
     }
 }
 
@@ -64,7 +66,8 @@ fn a_seed_gives_one_script_and_another_seed_another() {
 fn the_short_script_is_short_and_has_only_the_words_that_are_obeyed() {
     let script = scripts::of_name("short").unwrap();
     assert!(script.text.len() < 65_536);
-    let obeyed = "open next late lookup worst save load state room set file byte take";
+    let obeyed =
+        "open next late nextmany latemany lookup worst save load state room set file byte take reading";
     for line in script.text.lines() {
         let word = line.split(' ').next().unwrap();
         assert!(

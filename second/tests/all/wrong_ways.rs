@@ -363,6 +363,11 @@ impl SizeWay {
             let Some(command) = Command::of_line(line).unwrap() else {
                 continue;
             };
+            // Of many readings none may be asked for, which is no matter of sizes.
+            if matches!(command.word, Word::NextMany | Word::LateMany) {
+                session.obey(&command);
+                continue;
+            }
             let told = match command.word {
                 Word::Open => Some(self.opened(&session, &command).map(|(_, base)| (base, 0))),
                 Word::Load => Some(self.loaded(&session, &command)),

@@ -1,12 +1,9 @@
 -- `arrival::next` meets its contract: each return is its case of the arrival.
 use borrow.Author.Needs.{needs}
-use borrow.Author.Tests.{le-leb, lt-leb}
 use mathlib.Core.Path.{_≡_, sym, _∙_}
 use mathlib.Core.Bool.{true, false}
 use Rattle.rule.specs.Calls.{checked, late}
-use Rattle.rule.specs.Numbers.{ticks}
 use Rattle.rule.specs.Room.{sound}
-use Rattle.rooms.proofs.Sounding.{sound-facts, sound-filled}
 use Rattle.rule.proofs.Ruling.{flipped}
 use Rattle.arrival.specs.Arrivals.{met}
 use Rattle.arrival.proofs.next.Statement.{statement}
@@ -27,20 +24,8 @@ returns-2 : tie.Need-returns-2
 unfolding checked met
 returns-2 c = rw (whole (c .before .before .before), sym (c .before .is-late .ensures) ∙ c .if2 .taken)
 
-next-tick-requires : tie.Need-next-tick-requires
-next-tick-requires c κs = let a = c .before .before .before .before .before .args in sound-filled (a .s) (a .room .now) (sound-facts (a .s) (a .room .now) (whole (c .before .before .before)))
-
-returns-3 : tie.Need-returns-3
-unfolding checked met
-returns-3 c =
-    let past = c .before .before in
-    rw (whole (past .before .before .before), in-order past, ← c .before .next-tick .ensures, le-leb ticks (c .before .next-tick .result) (c .if3 .taken))
-
-returns-4 : tie.Need-returns-4
-unfolding checked met
-returns-4 c =
-    let past = c .before .before in
-    rw (whole (past .before .before .before), in-order past, ← c .before .next-tick .ensures, lt-leb ticks (c .before .next-tick .result) (c .if3 .left))
+following-requires : tie.Need-following-requires
+following-requires c κs = (whole (c .before .before .before), in-order c)
 
 pub next-spec : {M : Type 1} → statement M
 next-spec =
@@ -50,7 +35,5 @@ next-spec =
     returns
     (λ c κs. search needs)  -- is-late-requires
     returns-2
-    next-tick-requires
-    returns-3
-    (λ c. search needs)  -- cast-t12
-    returns-4)
+    following-requires
+    (λ c. c .following .ensures))  -- returns-3

@@ -7,14 +7,16 @@ use Rattle.calls.proofs.run.Statement.{statement}
 use Rattle.calls.proofs.run.Tie as tie
 
 abbrev Inv-loop : tie.InvT-loop
-Inv-loop script room₀ file₀ output₀ given₀ held₀ i₀ room file output given held i =
+Inv-loop script room₀ file₀ output₀ ticks₀ values₀ given₀ held₀ i₀ room file output ticks values given held i =
     (i ≤ length script)
     × (length room ≡ length room₀)
     × (length file ≡ length file₀)
     × (length output ≡ length output₀)
+    × (length ticks ≡ length ticks₀)
+    × (length values ≡ length values₀)
 
 abbrev μ-loop : tie.MeasureT-loop
-μ-loop script room₀ file₀ output₀ given₀ held₀ i₀ room file output given held i =
+μ-loop script room₀ file₀ output₀ ticks₀ values₀ given₀ held₀ i₀ room file output ticks values given held i =
     length script - i
 
 pub run-spec : {M : Type 1} → statement M
@@ -34,4 +36,6 @@ run-spec =
     (λ c. search needs)  -- same-length
     (λ c. search needs)  -- same-length-2
     (λ c. search needs)  -- same-length-3
+    (λ c. search needs)  -- same-length-4
+    (λ c. search needs)  -- same-length-5
     (λ c. search needs))  -- returns

@@ -1,0 +1,2 @@
+-- What an ending says to the tally.
+pub mod Endings

@@ -1,0 +1,2 @@
+-- The answer of many readings as a plain record.
+pub mod Feeding

@@ -1,0 +1,2 @@
+-- A block of readings taken at once.
+pub mod Block

@@ -1,0 +1,2 @@
+-- The answer of many readings as code has it.
+pub mod Answers

@@ -1,0 +1,2 @@
+-- Readings in order taken in scratch places.
+pub mod Stretch

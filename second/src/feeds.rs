@@ -1,0 +1,237 @@
+//! The sorts of calls of many readings, told from what they are lent and what they answer.
+
+use crate::calls::{Fed, State, RUNS, TAKEN, TICK};
+use crate::command::{Command, Word};
+use crate::counts::Met;
+use crate::session::{Session, READINGS};
+
+/// One call of many readings, the state that it was given, and what it left.
+pub struct Feed<'a> {
+    pub session: &'a Session,
+    pub command: &'a Command,
+    pub before: State,
+    pub fed: &'a Fed,
+}
+
+/// So many calls of each sort, of each length and of each size, at the least.
+const OF_EACH_SORT: u64 = 100;
+const OF_EACH_LENGTH: u64 = 10;
+const OF_EACH_SIZE: u64 = 50;
+
+/// Every length up to this one is met, and these.
+const EVERY_LENGTH: usize = 160;
+const LENGTHS: [usize; 11] = [
+    255, 256, 509, 510, 511, 512, 1_021, 1_022, 1_023, 1_024, READINGS,
+];
+/// From this one on a call is a long one.
+const LONG: usize = 300;
+/// Base limits at which readings in order go past the limit in one call.
+const SIZES: [u64; 14] = [1, 2, 3, 4, 30, 31, 32, 33, 34, 128, 493, 494, 511, 512];
+/// A stretch is C and so many readings more, at most so many.
+const STRETCH: u64 = 16;
+const LONGEST_STRETCH: u64 = 510;
+const STRETCHES: u64 = 3;
+/// So many readings of one sort follow each other.
+const ROW: usize = 32;
+
+const WORDS: [Word; 2] = [Word::NextMany, Word::LateMany];
+
+/// A sort by its name, and whether a call is of it.
+type Sort = (&'static str, fn(&Feed) -> bool);
+
+/// Of either word.
+const SORTS: [Sort; 8] = [
+    ("of nothing, unsound", |feed| {
+        feed.asked() == 0 && feed.session.is_unsound()
+    }),
+    ("of a long list", |feed| {
+        feed.fed.refusal.is_none() && feed.asked() >= LONG
+    }),
+    ("stopped past the middle", |feed| {
+        feed.fed.refusal.is_some() && feed.fed.accepted as usize > feed.asked() / 2
+    }),
+    ("refused at the last", |feed| {
+        feed.fed.refusal.is_some() && feed.asked() > 1 && feed.is_last()
+    }),
+    ("with a kind above 1 left", |feed| feed.session.kind > 1),
+    ("of both ends of the range", |feed| {
+        let values = feed.accepted();
+        values.contains(&i32::MIN) && values.contains(&i32::MAX)
+    }),
+    ("of one value over and over", |feed| {
+        rows(feed.accepted(), |row| {
+            row.iter().all(|&value| value == row[0])
+        })
+    }),
+    ("of a trace that has buckets", |feed| {
+        feed.before.used > 1 && feed.fed.accepted > 1
+    }),
+];
+
+/// Of readings in order.
+const IN_ORDER: [Sort; 2] = [
+    ("of two values in turn", |feed| {
+        let in_turn =
+            |row: &[i32]| row[0] != row[1] && row[2..].iter().zip(row).all(|(a, b)| a == b);
+        rows(feed.accepted(), in_turn)
+    }),
+    ("up to the last tick and no further", |feed| {
+        feed.fed.refusal.is_none() && feed.asked() > 1 && feed.fed.state.readings == 1 << 24
+    }),
+];
+
+/// Of late readings.
+const LATE: [Sort; 4] = [
+    ("of more ticks than values", |feed| {
+        feed.ticks() > feed.values()
+    }),
+    ("of more values than ticks", |feed| {
+        feed.ticks() < feed.values()
+    }),
+    ("of ticks and no values", |feed| {
+        feed.ticks() > 0 && feed.values() == 0
+    }),
+    ("of values and no ticks", |feed| {
+        feed.ticks() == 0 && feed.values() > 0
+    }),
+];
+
+fn rows(values: &[i32], is: impl FnMut(&[i32]) -> bool) -> bool {
+    values.chunks_exact(ROW).any(is)
+}
+
+fn sorts(word: Word) -> impl Iterator<Item = &'static Sort> {
+    let own: &[Sort] = match word {
+        Word::NextMany => &IN_ORDER,
+        _ => &LATE,
+    };
+    SORTS.iter().chain(own)
+}
+
+impl Feed<'_> {
+    fn values(&self) -> usize {
+        self.session.lent_values(self.command).len()
+    }
+
+    fn ticks(&self) -> usize {
+        self.session.lent_ticks(self.command).len()
+    }
+
+    /// How many readings there are to take.
+    pub fn asked(&self) -> usize {
+        match self.command.word {
+            Word::NextMany => self.values(),
+            _ => self.values().min(self.ticks()),
+        }
+    }
+
+    fn accepted(&self) -> &[i32] {
+        &self.session.lent_values(self.command)[..self.fed.accepted as usize]
+    }
+
+    /// Whether the one after the accepted ones is the last.
+    fn is_last(&self) -> bool {
+        self.fed.accepted as usize + 1 == self.asked()
+    }
+
+    /// What the call meets, and how often.
+    pub fn met(&self) -> Met {
+        let word = self.command.word;
+        let mut met = Met::new();
+        met.insert(readings(word), self.fed.accepted);
+        let mut count = |what: String| *met.entry(what).or_default() += 1;
+        for (name, _) in sorts(word).filter(|(_, is)| is(self)) {
+            count(of_sort(word, name));
+        }
+        match self.fed.refusal {
+            Some(refusal) if self.fed.accepted > 0 => count(after_some(word, refusal.number)),
+            Some(_) => {}
+            None => {
+                if self.asked() <= EVERY_LENGTH || LENGTHS.contains(&self.asked()) {
+                    count(of_length(word, self.asked()));
+                }
+                if word == Word::NextMany {
+                    self.sized().into_iter().for_each(count);
+                }
+            }
+        }
+        met
+    }
+
+    /// By how many readings there are beside the base limit.
+    fn sized(&self) -> Vec<String> {
+        let base = self.fed.state.base;
+        let mut sorts = Vec::new();
+        if self.fed.accepted > 0 && SIZES.contains(&base) {
+            if self.before.used + self.fed.accepted > base + 1 {
+                sorts.push(past(base));
+            }
+            let stretch = stretch(base);
+            for (beside, more) in BESIDE {
+                let length = self.fed.accepted.checked_add_signed(-more);
+                let times = (1..=STRETCHES).find(|times| length == Some(times * stretch));
+                sorts.extend(times.map(|times| stretches(times, beside)));
+            }
+        }
+        sorts
+    }
+}
+
+const BESIDE: [(&str, i64); 3] = [("", 0), (", one less", -1), (", one more", 1)];
+
+/// About as many readings as there may be buckets.
+pub fn stretch(base: u64) -> u64 {
+    (base + STRETCH).min(LONGEST_STRETCH)
+}
+
+fn readings(word: Word) -> String {
+    format!("{}: readings accepted", word.text())
+}
+
+fn of_sort(word: Word, name: &str) -> String {
+    format!("{}: {name}", word.text())
+}
+
+fn of_length(word: Word, length: usize) -> String {
+    format!("{}: {length} readings", word.text())
+}
+
+fn after_some(word: Word, refusal: u32) -> String {
+    format!("{}: refused {refusal} after some", word.text())
+}
+
+fn past(base: u64) -> String {
+    format!("nextmany: past the limit at C {base}")
+}
+
+fn stretches(times: u64, beside: &str) -> String {
+    format!("nextmany: {times} stretches of readings{beside}")
+}
+
+/// How often each sort must be met.
+pub fn wanted() -> Met {
+    let mut wanted = Met::new();
+    for word in WORDS {
+        for (name, _) in sorts(word) {
+            wanted.insert(of_sort(word, name), OF_EACH_SORT);
+        }
+        for length in (0..=EVERY_LENGTH).chain(LENGTHS) {
+            wanted.insert(of_length(word, length), OF_EACH_LENGTH);
+        }
+    }
+    wanted.insert(after_some(Word::NextMany, TICK), OF_EACH_SORT);
+    for refusal in [TICK, RUNS, TAKEN] {
+        wanted.insert(after_some(Word::LateMany, refusal), OF_EACH_SORT);
+    }
+    for base in SIZES {
+        wanted.insert(past(base), OF_EACH_SIZE);
+    }
+    for times in 1..=STRETCHES {
+        for (beside, _) in BESIDE {
+            wanted.insert(stretches(times, beside), OF_EACH_SIZE);
+        }
+    }
+    wanted.insert(readings(Word::NextMany), 300_000);
+    wanted.insert(readings(Word::LateMany), 100_000);
+    wanted
+}

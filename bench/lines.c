@@ -1,5 +1,6 @@
-/* What the listing program does for a trace in order of 32 steps, in plain C: one reading a line, then the steps. Errors end it. */
-#include "plain.h"
+/* What the listing program does for a trace in order of 32 steps, in plain C: one reading a line, many of them taken at one call, then the steps. Errors end
+ * it. */
+#include "plain_many.h"
 #include <inttypes.h>
 #include <stdio.h>
 
@@ -7,6 +8,8 @@
 
 static char input[65536];
 static size_t have, at;
+static int32_t values[4096];
+static size_t count;
 
 static int next_byte(void)
 {
@@ -19,10 +22,20 @@ static int next_byte(void)
     return (unsigned char)input[at++];
 }
 
+static int64_t room[NUMBERS];
+static ndz_state state;
+
+static int take(void)
+{
+    ndz_fed fed = plain_32(state, room, NUMBERS, values, count);
+    state = fed.state;
+    count = 0;
+    return fed.refusal == 0;
+}
+
 int main(void)
 {
-    int64_t room[NUMBERS];
-    ndz_answer trace = plain_open((ndz_settings){.kind = NDZ_IN_ORDER, .size = NDZ_DEFAULT_STEPS}, room, NUMBERS);
+    state = plain_open((ndz_settings){.kind = NDZ_IN_ORDER, .size = NDZ_DEFAULT_STEPS}, room, NUMBERS).state;
     for (int byte = next_byte(); byte != EOF; byte = next_byte()) {
         int negative = byte == '-', digits = 0;
         int64_t value = 0;
@@ -34,18 +47,20 @@ int main(void)
             value = -value;
         if ((byte != '\n' && byte != EOF) || digits == 0 || value < INT32_MIN || value > INT32_MAX)
             return 1;
-        trace = plain_next(trace.state, room, NUMBERS, (int32_t)value);
-        if (trace.refusal)
+        values[count++] = (int32_t)value;
+        if (count == sizeof values / sizeof *values && !take())
             return 1;
     }
+    if (!take())
+        return 1;
     int64_t worst = 0;
-    for (uint64_t i = 0; i < trace.state.used; i++) {
+    for (uint64_t i = 0; i < state.used; i++) {
         const int64_t *b = room + NDZ_SLOT * i;
         int64_t sum = b[2] + b[3], level = (sum - (sum < 0)) / 2, error = b[3] - level > level - b[2] ? b[3] - level : level - b[2];
         if (error > worst)
             worst = error;
         printf("%" PRId64 " %" PRId64 " %" PRId64 " %" PRId64 " %" PRId64 "\n", b[0], b[1], b[2], b[3], level);
     }
-    printf("total %" PRIu64 " %" PRIu64 " %" PRId64 "\n", trace.state.readings, trace.state.used, worst);
+    printf("total %" PRIu64 " %" PRIu64 " %" PRId64 "\n", state.readings, state.used, worst);
     return 0;
 }

@@ -1,5 +1,6 @@
 //! What an input of the listing program tries, read off the input itself and its listing: one line a class, to be counted over all inputs.
 
+use crate::lines::THOUSANDS;
 use crate::listing;
 use crate::long_lines::{LONG, PAIR_BYTES, READ, VALUE_BYTES};
 use std::io;
@@ -17,6 +18,7 @@ pub fn classes(input: &[u8]) -> io::Result<Vec<String>> {
         ["refused", line, refusal] => {
             found.push(format!("refused {refusal}"));
             found.extend(of_refused_line(input, number(line)?));
+            found.extend(of_thousands(input, number(line)?.saturating_sub(2), "and one refused"));
         }
         ["total", readings, buckets, _] => {
             found.push("whole".to_string());
@@ -26,6 +28,7 @@ pub fn classes(input: &[u8]) -> io::Result<Vec<String>> {
                 number(readings)?,
                 number(buckets)?,
             ));
+            found.extend(of_thousands(input, number(readings)?, "and no more"));
             found.extend(of_cuts(input));
             found.extend(of_sums(&output)?);
         }
@@ -99,6 +102,16 @@ fn of_headers(input: &[u8], output: &str, readings: u64, buckets: u64) -> Vec<St
         }
         _ => Vec::new(),
     }
+}
+
+/// So many readings in order behind a header of steps, within a read.
+fn of_thousands(input: &[u8], readings: u64, then: &str) -> Vec<String> {
+    let header = input.starts_with(b"steps ") && !input[line_bytes(input)..].starts_with(b"\nlate");
+    let mut found = Vec::new();
+    if header && input.len() < READ && THOUSANDS.contains(&(readings as usize)) {
+        found.push(format!("{readings} readings in one read {then}"));
+    }
+    found
 }
 
 fn of_no_header(output: &str, readings: u64) -> Vec<String> {

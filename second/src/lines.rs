@@ -9,10 +9,11 @@ use std::fmt::Write as _;
 type Make = fn(u64) -> Vec<u8>;
 
 /// How many inputs each group has, and what makes one of them.
-const GROUPS: [(u64, Make); 10] = [
+const GROUPS: [(u64, Make); 11] = [
     (240, short),
     (45, without_header),
     (44, in_order_of_any_steps),
+    (42, thousands_in_one_read),
     (50, late_of_any_runs),
     (12, late_in_any_order),
     (15, long_lines::cut),
@@ -21,6 +22,9 @@ const GROUPS: [(u64, Make); 10] = [
     (12, long_lines::too_long_at_a_read),
     (5, long_lines::refused_at_the_end),
 ];
+
+/// 4,096 readings and twice as many, with one fewer and one more of each.
+pub const THOUSANDS: [usize; 6] = [4_095, 4_096, 4_097, 8_191, 8_192, 8_193];
 
 /// How many inputs there are.
 pub fn inputs() -> u64 {
@@ -176,6 +180,31 @@ fn in_order_of_any_steps(number: u64) -> Vec<u8> {
     let shape = SHAPES[number as usize / STEPS.len()];
     let readings = 2 * steps + 1 + number as usize * 7;
     let text = format!("steps {steps}\n") + &values(shape, number as u32 + 1, readings);
+    text.into_bytes()
+}
+
+/// In order, 4,096 readings, twice as many, or one fewer or more, all within a read. Then nothing, or a line that is refused and readings behind it: a line
+/// that cannot be read, a header out of place, a reading of the other kind, one out of range, a line too long, an empty one.
+fn thousands_in_one_read(number: u64) -> Vec<u8> {
+    const STEPS: [usize; 7] = [1, 4, 15, 16, 17, 64, 256];
+    const LAST: [Option<&str>; 7] = [
+        None,
+        Some("5x"),
+        Some("steps 4"),
+        Some("3 5"),
+        Some("2147483648"),
+        Some("11111111111111111111111111111111111111111111111111111111111111111"),
+        Some(""),
+    ];
+    let readings = THOUSANDS[number as usize % THOUSANDS.len()];
+    let turn = number as usize / THOUSANDS.len();
+    let steps = STEPS[(number as usize + turn) % STEPS.len()];
+    let shape = [Shape::FewLevels, Shape::Noise][turn % 2];
+    let mut text = format!("steps {steps}\n") + &values(shape, number as u32 + 1, readings);
+    if let Some(line) = LAST[turn] {
+        text.push_str(line);
+        text.push_str("\n1\n2\n");
+    }
     text.into_bytes()
 }
 

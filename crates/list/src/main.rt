@@ -20,7 +20,7 @@ fn main() {
         if n == 0 {
             more = false;
         } else {
-            state = reader::piece(state, &mut room, &mut line, &piece[0..n]);
+            state = gathering::piece(state, &mut room, &mut line, &piece[0..n]);
             if reader::ended(state) {
                 more = false;
             }

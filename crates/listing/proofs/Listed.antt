@@ -59,7 +59,7 @@ told x = (x .last, (x .count, x .room))
 
 -- ---- behind a refused line
 
-fed-refused : (r : Refusal) (g : Stage) (n k : ℕ) (l : List ℤ) (line bs : List ℕ) → fed (reader (Refused r) g n k, (l, line)) bs ≡ (reader (Refused r) g n k, (l, line))
+pub fed-refused : (r : Refusal) (g : Stage) (n k : ℕ) (l : List ℤ) (line bs : List ℕ) → fed (reader (Refused r) g n k, (l, line)) bs ≡ (reader (Refused r) g n k, (l, line))
 unfolding fed byteFed
 fed-refused r g n k l line [] = refl
 fed-refused r g n k l line (b ∷ bs) = fed-refused r g n k l line bs

@@ -2,7 +2,6 @@
 use Rattle.rule.specs.Outcomes.{OneOutcome}
 use Rattle.rule.proofs.Determined.{by-pair, by-result}
 use Rattle.reader.proofs.begin as begin
-use Rattle.reader.proofs.piece as piece
 use Rattle.reader.proofs.rest as rest
 use Rattle.reader.proofs.ended as ended
 
@@ -14,6 +13,3 @@ rest-one M 𝓤 H A mem run κs a g r r′ l l′ = by-pair 𝓤 (λ x. (l .0, (
 
 pub ended-one : OneOutcome ended.ended (λ M. ended.clauses)
 ended-one M 𝓤 H A mem run κs a g r r′ l l′ = by-result 𝓤
-
-pub piece-one : OneOutcome piece.ended (λ M. piece.clauses)
-piece-one M 𝓤 H A mem run κs a g r r′ l l′ = by-pair 𝓤 (λ x. (l .0, (x .0, (x .1, l .1 .1 .1))))

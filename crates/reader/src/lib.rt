@@ -1,7 +1,6 @@
-// The listing's input, read in pieces.
+// The listing's input begun and ended.
 ghost use mathlib.Core.Path.{_≡_};
-ghost use Rattle.listing.specs.Feeding.{fed, fresh, hasEnded, restFed};
-use lines::byte;
+ghost use Rattle.listing.specs.Feeding.{fresh, hasEnded, restFed};
 use lines::line_ended;
 use listing::Feeding;
 use listing::Stage;
@@ -23,19 +22,6 @@ pub fn begin(room: &mut [i64]) -> Feeding
         lines: 0,
         filled: 0,
     }
-}
-
-// A piece of the input.
-pub fn piece(f: Feeding, room: &mut [i64], line: &mut [u8], bytes: &[u8]) -> Feeding
-    ensures { λ r. ⌜ (r, (now (room .exit), now (line .exit))) ≡ fed (f, (now (room .entry), now (line .entry))) (now (bytes .entry)) ⌝ }
-{
-    let mut state = f;
-    let mut i = 0;
-    while i < bytes.len() {
-        state = byte(state, &mut *room, &mut *line, bytes[i]);
-        i += 1;
-    }
-    state
 }
 
 // The input's end.

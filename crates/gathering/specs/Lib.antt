@@ -1,0 +1,2 @@
+-- The input read in pieces while readings wait.
+pub mod Gathering

@@ -1,0 +1,2 @@
+-- Readings of the listing's input that wait.
+pub mod Waiting

@@ -1,0 +1,2 @@
+-- A line obeyed by a trace that is known to be sound.
+pub mod Fitting

@@ -2,7 +2,8 @@
 use Prim.Native.Nat.{ℕ, zero, suc, _*_, _%_}
 use mathlib.Core.Path.{_≡_, refl, sym, ap, subst, _∙_}
 use mathlib.Core.Bool.{true}
-use mathlib.Core.List.{List, [], _∷_, _++_, map, Memᴰ·append-left, Memᴰ·append-right, List·Memᴰ·head, List·Memᴰ·tail}
+use mathlib.Core.List.{List, [], _∷_, _++_, map, Memᴰ·append-left, Memᴰ·append-right, List·Memᴰ, List·Memᴰ·cases-cons, List·Memᴰ·head, List·Memᴰ·not-nil, List·Memᴰ·tail}
+use mathlib.Core.Logic.{⊎-elim}
 use mathlib.Core.Option.{Option, some, none}
 use native.Mathlib.Omega.{arith}
 use lib.Dec.{eqb, leb}
@@ -40,13 +41,16 @@ use Rattle.storage.proofs.RoundTrips.{load-sound}
 use Rattle.rooms.specs.Left.{LeavesSound, LeftBy}
 use Rattle.rooms.proofs.Granting.{past-admission}
 use Rattle.rooms.proofs.Leaving.{Leaves, late-leaves, next-leaves, open-leaves, refused-leaves}
+use Rattle.series.specs.Counts.{orCounted, tallied}
+use Rattle.series.specs.Series as series
+use Rattle.series.specs.Series.{Fed, fedFrom, lateCall, lateMany, nextCall, nextMany, orEnd, timed}
 use Rattle.over.specs.Search.{searchOutcome}
 use Rattle.logger.specs.declared.Frame.{Frame}
 use Rattle.logger.specs.Replay as logger
 use Rattle.logger.specs.Replay.{Course, Landed, fedAt, framesOf, goneOn, landing, lateOpening, replayOutcome, replayVerdict, replayed}
 use Rattle.offset.specs.Caller as caller
-use Rattle.offset.specs.Caller.{Answer, Call, Caller, after, answer, answers, begun, fed, fileAt, idle, kept, left, part, played, recount}
-use Rattle.offset.specs.Offset.{AllFit, AllHigher, Alike, FileMoved, FilesMoved, Higher, Offset, RecordingMoved, each, higher, landedIn, lates-too, loads-too, lookups-too, movedAll, movedAnswer, movedFound, movedFrame, movedLanded, nexts-too, none as no-more, opens-too, readingsIn, readingsOf, replays-too, rows-too, saves-too, searches-too, worsts-too}
+use Rattle.offset.specs.Caller.{Answer, Call, Caller, after, answer, answers, begun, fed, fedMany, fileAt, idle, kept, left, part, played, reach, recount}
+use Rattle.offset.specs.Offset.{AllFit, AllHigher, Alike, FileMoved, FilesMoved, Higher, Offset, RecordingMoved, each, higher, landedIn, lates-many-too, lates-too, loads-too, lookups-too, movedAll, movedAnswer, movedFound, movedFrame, movedLanded, movedReadings, nexts-many-too, nexts-too, none as no-more, opens-too, readingsIn, readingsOf, replays-too, rows-too, saves-too, searches-too, worsts-too}
 use Rattle.offset.proofs.Moved.{accept-moved, error-moved, first-fault-moved, first-over-moved, holding-moved, insert-moved, last-end-moved, length-moved, level-moved, movedHeld, readings-moved, runs-moved, tick-moved, worst-moved}
 use Rattle.offset.proofs.Raised.{raised-bytes, recording-raised, word-bytes}
 
@@ -202,6 +206,91 @@ module _ (d : ℤ) where
         buckets = λ _. tables-moved g t l m;
       }
 
+  -- ---- one reading, and many
+
+  -- a reading that fits 32 bits, and fits them with d
+  abbrev Fits : ℤ → Type 0
+  Fits v = (signed v ≡ true) × (signed (v +ℤ d) ≡ true)
+
+  -- a reading with its tick, the reading d more
+  abbrev movedTimed : ℕ × ℤ → ℕ × ℤ
+  movedTimed r = (r .0, r .1 +ℤ d)
+
+  -- the second gets the first one's verdict, and what both go on with is alike
+  record Steps (s : State) (o q : Verdict State × List ℤ) : Type 0 where
+    same : q .0 ≡ o .0
+    twin : Twin (onward s (o .0)) (o .1) (q .1)
+
+  module _ (s : State) (l m : List ℤ) (a : Twin s l m) where
+    traced-steps : (v : Verdict Table) → let g = s .settings in LeavesSound (traced g l v) → LeavesSound (traced g m (movedVerdict v)) → Steps s (traced g l v) (traced g m (movedVerdict v))
+    unfolding traced movedVerdict onward LeftBy
+    traced-steps (refused r) p q = record { same = refl; twin = a }
+    traced-steps (accepted t) p q = let g = s .settings in record { same = ap accepted (state-moved g t); twin = laid-twin g t l m p q }
+
+    verdict-steps : (v w : Verdict Table) → w ≡ movedVerdict v → let g = s .settings in LeavesSound (traced g l v) → LeavesSound (traced g m w) → Steps s (traced g l v) (traced g m w)
+    verdict-steps v w e p = let g = s .settings in subst (λ (x : Verdict Table). LeavesSound (traced g m x) → Steps s (traced g l v) (traced g m x)) (sym e) (traced-steps v p)
+
+    next-steps : (v : ℤ) → Fits v → Steps s (nextCall s l v) (nextCall s m (v +ℤ d))
+    next-steps v fits = verdict-steps _ _ (next-moved s l m a v) (next-leaves s l v (signed-fits v (fits .0))) (next-leaves s m (v +ℤ d) (signed-fits (v +ℤ d) (fits .1)))
+
+    late-steps : (r : ℕ × ℤ) → Fits (r .1) → Steps s (lateCall s l r) (lateCall s m (movedTimed r))
+    late-steps r fits =
+        let tick = r .0 in
+        let v = r .1 in
+        verdict-steps _ _ (late-moved s l m a tick v) (late-leaves s l tick v (signed-fits v (fits .0))) (late-leaves s m tick (v +ℤ d) (signed-fits (v +ℤ d) (fits .1)))
+
+  -- what has come of many, and the tally then
+  record Ends (f g : Fed) (t u : Tally) : Type 0 where
+    state : g .state ≡ f .state
+    accepted : g .accepted ≡ f .accepted
+    refusal : g .refusal ≡ f .refusal
+    twin : Twin (f .state) (f .room) (g .room)
+    tally : u ≡ t
+
+  -- one verdict for both: it ends them alike, or they go on alike
+  one-ends : (n : ℕ) (t : Tally) (s : State) (v : Verdict State) (l m : List ℤ) → Twin (onward s v) l m → (on too : State → List ℤ → Fed) (counts counts-too : State → List ℤ → Tally)
+      → ((x : State) (l m : List ℤ) → Twin x l m → Ends (on x l) (too x m) (counts x l) (counts-too x m)) → Ends (orEnd n s v l on) (orEnd n s v m too) (orCounted t v l counts) (orCounted t v m counts-too)
+  unfolding orEnd orCounted onward
+  one-ends n t s (refused r) l m a on too counts counts-too h = record { state = refl; accepted = refl; refusal = refl; twin = a; tally = refl }
+  one-ends n t s (accepted x) l m a on too counts counts-too h = h x l m a
+
+  -- of next and late, by what one reading of them does
+  module _ {A : Type 0} (call : series.Call A) (up : A → A) (Good : A → Type 0) (steps : (s : State) (l m : List ℤ) → Twin s l m → (v : A) → Good v → Steps s (call s l v) (call s m (up v))) where
+    all-ends : (vs : List A) → ((v : A) → List·Memᴰ v vs → Good v) → (n : ℕ) (t : Tally) (s : State) (l m : List ℤ) → Twin s l m
+        → Ends (fedFrom call n s l vs) (fedFrom call n s m (map up vs)) (tallied call t s l vs) (tallied call t s m (map up vs))
+    unfolding fedFrom tallied
+    all-ends [] h n t s l m a = record { state = refl; accepted = refl; refusal = refl; twin = a; tally = refl }
+    all-ends (v ∷ vs) h n t s l m a =
+        let b = steps s l m a v (h v (List·Memᴰ·head refl)) in
+        let o = call s l v in
+        let q = call s m (up v) in
+        let u = counted t (s .used) (o .0) in
+        subst (λ (x : Verdict State). let w = counted t (s .used) x in Ends (fedFrom call n s l (v ∷ vs)) (orEnd n s x (q .1) (λ y k. fedFrom call (suc n) y k (map up vs))) (tallied call t s l (v ∷ vs)) (orCounted w x (q .1) (λ y k. tallied call w y k (map up vs))))
+        (sym (b .same)) (one-ends n u s (o .0) (o .1) (q .1) (b .twin) _ _ _ _ (λ y k e. all-ends vs (λ w i. h w (List·Memᴰ·tail i)) (suc n) u y k e))
+
+  timed-moved : (ts : List ℕ) (vs : List ℤ) → timed ts (movedReadings d vs) ≡ map movedTimed (timed ts vs)
+  unfolding timed
+  timed-moved [] vs = refl
+  timed-moved (t ∷ ts) [] = refl
+  timed-moved (t ∷ ts) (v ∷ vs) = ap (λ (rs : List (ℕ × ℤ)). (t, v +ℤ d) ∷ rs) (timed-moved ts vs)
+
+  timed-fit : (ts : List ℕ) (vs : List ℤ) → AllFit d vs → (r : ℕ × ℤ) → List·Memᴰ r (timed ts vs) → Fits (r .1)
+  unfolding timed
+  timed-fit [] vs h r i = absurd (List·Memᴰ·not-nil i)
+  timed-fit (t ∷ ts) [] h r i = absurd (List·Memᴰ·not-nil i)
+  timed-fit (t ∷ ts) (v ∷ vs) h r i = ⊎-elim (λ q. rw q (h v (List·Memᴰ·head refl))) (timed-fit ts vs (λ w k. h w (List·Memᴰ·tail k)) r) (List·Memᴰ·cases-cons i)
+
+  module _ (s : State) (l m : List ℤ) (a : Twin s l m) (t : Tally) where
+    next-ends : (vs : List ℤ) → AllFit d vs → let ws = movedReadings d vs in Ends (nextMany s l vs) (nextMany s m ws) (tallied nextCall t s l vs) (tallied nextCall t s m ws)
+    next-ends vs h = all-ends nextCall (λ v. v +ℤ d) Fits next-steps vs h 0 t s l m a
+
+    late-ends : (ts : List ℕ) (vs : List ℤ) → AllFit d vs → let rs = timed ts vs in let qs = timed ts (movedReadings d vs) in Ends (lateMany s l rs) (lateMany s m qs) (tallied lateCall t s l rs) (tallied lateCall t s m qs)
+    late-ends ts vs h =
+        rw (timed-moved ts vs) (all-ends lateCall movedTimed (λ r. Fits (r .1)) late-steps (timed ts vs) (timed-fit ts vs h) 0 t s l m a)
+
+  many-same : {f g : Fed} {t u : Tally} → Ends f g t u → reach g ≡ reach f
+  many-same b = λ i. caller.reached (b .state i) (b .accepted i) (b .refusal i)
+
   -- ---- the course of a replay
 
   -- the second course, which has the first one's state and counts: the same records are accepted, at the same ticks
@@ -212,33 +301,26 @@ module _ (d : ℤ) where
     same : e ≡ beside c (e .room)
     twin : Twin (c .state) (c .room) (e .room)
 
-  module _ (c : Course) (m : List ℤ) (a : Twin (c .state) (c .room) m) where
-    after-runs : (w : Landed) (v : Verdict Table) → let g = c .state .settings in LeavesSound (traced g (c .room) v) → LeavesSound (traced g m (movedVerdict v))
-        → let o = traced g (c .room) v in let q = traced g m (movedVerdict v) in Runs (logger.after c w (o .0) (o .1)) (logger.after (beside c m) (movedLanded d w) (q .0) (q .1))
-    unfolding traced movedVerdict LeftBy logger.after
-    after-runs w (refused r) p q = record { same = refl; twin = a }
-    after-runs w (accepted t) p q =
-        let g = c .state .settings in
-        let n = laid (needed g) (movedAll d t) m in
-        record { same = ap (λ (s : State). record { state = s; room = n; landed = map (movedLanded d) (w ∷ c .landed); refused = c .refused }) (state-moved g t); twin = laid-twin g t (c .room) m p q }
+  module _ (c : Course) (m : List ℤ) where
+    after-runs : (w : Landed) (v : Verdict State) (l n : List ℤ) → Twin (onward (c .state) v) l n → Runs (logger.after c w v l) (logger.after (beside c m) (movedLanded d w) v n)
+    unfolding onward logger.after
+    after-runs w (refused r) l n a = record { same = refl; twin = a }
+    after-runs w (accepted t) l n a = record { same = refl; twin = a }
 
     -- one record: a late reading at its tick
-    fed-runs : (f : Frame) → signed (f .value) ≡ true → signed (f .value +ℤ d) ≡ true → Runs (fedAt c (landing c f)) (fedAt (beside c m) (landing (beside c m) (movedFrame d f)))
-    fed-runs f fits fits-too =
-        let s = c .state in
-        let v = f .value in
+    fed-runs : Twin (c .state) (c .room) m → (f : Frame) → Fits (f .value) → Runs (fedAt c (landing c f)) (fedAt (beside c m) (landing (beside c m) (movedFrame d f)))
+    fed-runs a f fits =
         let w : Landed = landing c f in
-        let tick = natAbs (w .tick) in
+        let r : ℕ × ℤ = (natAbs (w .tick), f .value) in
+        let b = late-steps (c .state) (c .room) m a r fits in
         rw (tick-moved d (c .landed) (f .counter))
-        (subst (λ (x : Verdict Table). LeavesSound (traced (s .settings) m x) → let q = traced (s .settings) m x in Runs (fedAt c w) (logger.after (beside c m) (movedLanded d w) (q .0) (q .1)))
-        (sym (late-moved s (c .room) m a tick v)) (after-runs w _ (late-leaves s (c .room) tick v (signed-fits v fits))) (late-leaves s m tick (v +ℤ d) (signed-fits (v +ℤ d) fits-too)))
+        (subst (λ (x : Verdict State). Runs (fedAt c w) (logger.after (beside c m) (movedLanded d w) x (lateCall (c .state) m (movedTimed r) .1))) (sym (b .same)) (after-runs w _ _ _ (b .twin)))
 
   all-runs : (fs : List Frame) (c : Course) (m : List ℤ) → Twin (c .state) (c .room) m → AllFit d (map (λ (f : Frame). f .value) fs) → Runs (replayed c fs) (replayed (beside c m) (map (movedFrame d) fs))
   unfolding replayed
   all-runs [] c m a h = record { same = refl; twin = a }
   all-runs (f ∷ fs) c m a h =
-      let p = h (f .value) (List·Memᴰ·head refl) in
-      let b = fed-runs c m a f (p .0) (p .1) in
+      let b = fed-runs c m a f (h (f .value) (List·Memᴰ·head refl)) in
       let k : Course = fedAt c (landing c f) in
       let e : Course = fedAt (beside c m) (landing (beside c m) (movedFrame d f)) in
       subst (λ (x : Course). Runs (replayed k fs) (replayed x (map (movedFrame d) fs))) (sym (b .same)) (all-runs fs k (e .room) (b .twin) (λ v i. h v (List·Memᴰ·tail i)))
@@ -294,32 +376,28 @@ module _ (d : ℤ) where
     stays : Goes c (second c m gs)
     stays = record { state = refl; tally = refl; along = a }
 
-    -- the answers of two trace calls, and what each leaves its caller
-    abbrev Both : (Caller → Verdict State × List ℤ → Caller) → Settings → List ℤ → List ℤ → Verdict Table → Verdict Table → Type 0
-    Both by g l n v w =
-        (caller.traced (traced g n w .0) ≡ caller.traced (traced g l v .0)) × Goes (by c (traced g l v)) (by (second c m gs) (traced g n w))
+    fed-goes : {o q : Verdict State × List ℤ} → Steps (c .state) o q → (caller.traced (q .0) ≡ caller.traced (o .0)) × Goes (fed c o) (fed (second c m gs) q)
+    fed-goes b =
+        (ap caller.traced (b .same), record { state = ap (onward (c .state)) (b .same); tally = ap (counted (c .tally) (c .state .used)) (b .same); along = record { twin = b .twin; files = a .files } })
 
-    fed-goes : (v : Verdict Table) → let g = c .state .settings in LeavesSound (traced g (c .room) v) → LeavesSound (traced g m (movedVerdict v)) → Both fed g (c .room) m v (movedVerdict v)
-    unfolding traced movedVerdict onward LeftBy counted
-    fed-goes (refused r) p q = (refl, record { state = refl; tally = refl; along = record { twin = a .twin; files = a .files } })
-    fed-goes (accepted t) p q =
-        let g = c .state .settings in
-        let same = state-moved g t in
-        (ap (λ (x : State). caller.traced (accepted x)) same, record { state = same; tally = ap (λ (x : State). counted (c .tally) (c .state .used) (accepted x)) same; along = record { twin = laid-twin g t (c .room) m p q; files = a .files } })
+    many-goes : {f g : Fed} {t u : Tally} → Ends f g t u → (reach g ≡ reach f) × Goes (fedMany c f t) (fedMany (second c m gs) g u)
+    many-goes b = (many-same b, record { state = b .state; tally = b .tally; along = record { twin = b .twin; files = a .files } })
 
-    -- of an open or a load, in rooms l and n
-    begins : Caller → Verdict State × List ℤ → Caller
-    begins e o = begun e (o .0) (o .1)
+    -- of an open or a load, in rooms l and n: the answers, and what each leaves its caller
+    abbrev Both : Settings → List ℤ → List ℤ → Verdict Table → Verdict Table → Type 0
+    Both g l n v w =
+        let o = traced g l v in
+        let q = traced g n w in
+        (caller.traced (q .0) ≡ caller.traced (o .0)) × Goes (begun c (o .0) (o .1)) (begun (second c m gs) (q .0) (q .1))
 
-    begun-goes : (g : Settings) (l n : List ℤ) (v : Verdict Table) → LeavesSound (traced g l v) → LeavesSound (traced g n (movedVerdict v)) → Both begins g l n v (movedVerdict v)
-    unfolding traced movedVerdict begun LeftBy begins
+    begun-goes : (g : Settings) (l n : List ℤ) (v : Verdict Table) → LeavesSound (traced g l v) → LeavesSound (traced g n (movedVerdict v)) → Both g l n v (movedVerdict v)
+    unfolding traced movedVerdict begun LeftBy
     begun-goes g l n (refused r) p q = (refl, stays)
     begun-goes g l n (accepted t) p q =
         let same = state-moved g t in (ap (λ (x : State). caller.traced (accepted x)) same, record { state = same; tally = refl; along = record { twin = laid-twin g t l n p q; files = a .files } })
 
-    along : (by : Caller → Verdict State × List ℤ → Caller) (g : Settings) (l n : List ℤ) (v w : Verdict Table) → w ≡ movedVerdict v
-        → (LeavesSound (traced g n (movedVerdict v)) → Both by g l n v (movedVerdict v)) → LeavesSound (traced g n w) → Both by g l n v w
-    along by g l n v w e = subst (λ (x : Verdict Table). LeavesSound (traced g n x) → Both by g l n v x) (sym e)
+    along : (g : Settings) (l n : List ℤ) (v w : Verdict Table) → w ≡ movedVerdict v → LeavesSound (traced g l v) → LeavesSound (traced g n w) → Both g l n v w
+    along g l n v w e p = subst (λ (x : Verdict Table). LeavesSound (traced g n x) → Both g l n v x) (sym e) (begun-goes g l n v p)
 
     -- what row and save write: the buckets, and their bytes
     drawn-moved : (out too : List Bucket) (v : Verdict Table)
@@ -359,16 +437,14 @@ module _ (d : ℤ) where
     )
 
     step : {x y : Call} → Higher d x y → (answer (second c m gs) y ≡ movedAnswer d (answer c x)) × Goes (left c x) (left (second c m gs) y)
-    unfolding answer left movedAnswer movedVerdict begins
+    unfolding answer left movedAnswer movedVerdict
     step (opens-too g l n long) =
         let k = keptAs g in
-        along begins k l n _ _ (admitted-moved g l n long (accepted []) (accepted []) refl) (begun-goes k l n _ (open-leaves g l)) (open-leaves g n)
-    step (nexts-too v fits fits-too) =
-        let s = c .state in
-        along fed (s .settings) (c .room) m _ _ (next-moved s (c .room) m (a .twin) v) (fed-goes _ (next-leaves s (c .room) v (signed-fits v fits))) (next-leaves s m (v +ℤ d) (signed-fits (v +ℤ d) fits-too))
-    step (lates-too tick v fits fits-too) =
-        let s = c .state in
-        along fed (s .settings) (c .room) m _ _ (late-moved s (c .room) m (a .twin) tick v) (fed-goes _ (late-leaves s (c .room) tick v (signed-fits v fits))) (late-leaves s m tick (v +ℤ d) (signed-fits (v +ℤ d) fits-too))
+        along k l n _ _ (admitted-moved g l n long (accepted []) (accepted []) refl) (open-leaves g l) (open-leaves g n)
+    step (nexts-too v fits fits-too) = fed-goes (next-steps (c .state) (c .room) m (a .twin) v (fits, fits-too))
+    step (lates-too tick v fits fits-too) = fed-goes (late-steps (c .state) (c .room) m (a .twin) (tick, v) (fits, fits-too))
+    step (nexts-many-too vs fit) = many-goes (next-ends (c .state) (c .room) m (a .twin) (c .tally) vs fit)
+    step (lates-many-too ts vs fit) = many-goes (late-ends (c .state) (c .room) m (a .twin) (c .tally) ts vs fit)
     step (lookups-too tick) = (ap caller.shown (lookup-moved (c .state) (c .room) m (a .twin) tick), stays)
     step (searches-too first last bar) = (ap caller.pointed (search-same (c .state) (c .room) m (a .twin) first last bar), stays)
     step worsts-too = (ap caller.measured (worst-same (c .state) (c .room) m (a .twin)), stays)
@@ -384,7 +460,7 @@ module _ (d : ℤ) where
         let f = fileAt c i in
         let too = getD gs i [] in
         let moves = a .files i in
-        along begins k l n _ _ (admitted-moved g l n long (fileVerdict k f) (fileVerdict k too) (file-verdict-moved k f too moves)) (begun-goes k l n _ (load-leaves g f l (moves .bytes))) (load-leaves g too n (moves .bytes-too))
+        along k l n _ _ (admitted-moved g l n long (fileVerdict k f) (fileVerdict k too) (file-verdict-moved k f too moves)) (load-leaves g f l (moves .bytes)) (load-leaves g too n (moves .bytes-too))
     step (replays-too size gaps r q l n moves long) = played-goes (replay-plays size gaps r q l n moves long)
 
   -- ---- any calls
@@ -434,6 +510,10 @@ all-higher d (caller.nexts v ∷ xs) f =
     let p = f v (List·Memᴰ·head refl) in each (nexts-too v (p .0) (p .1)) (all-higher d xs (λ w m. f w (List·Memᴰ·tail m)))
 all-higher d (caller.lates tick v ∷ xs) f =
     let p = f v (List·Memᴰ·head refl) in each (lates-too tick v (p .0) (p .1)) (all-higher d xs (λ w m. f w (List·Memᴰ·tail m)))
+all-higher d (caller.nextsMany vs ∷ xs) f =
+    each (nexts-many-too vs (λ w i. f w (Memᴰ·append-left (readingsIn xs) i))) (all-higher d xs (λ w i. f w (Memᴰ·append-right vs i)))
+all-higher d (caller.latesMany ts vs ∷ xs) f =
+    each (lates-many-too ts vs (λ w i. f w (Memᴰ·append-left (readingsIn xs) i))) (all-higher d xs (λ w i. f w (Memᴰ·append-right vs i)))
 all-higher d (caller.lookups tick ∷ xs) f = each (lookups-too tick) (all-higher d xs f)
 all-higher d (caller.searches first last bar ∷ xs) f = each (searches-too first last bar) (all-higher d xs f)
 all-higher d (caller.worsts ∷ xs) f = each worsts-too (all-higher d xs f)
@@ -483,6 +563,10 @@ offset =
       search-feeds = λ first last bar xs. refl;
       search-any = λ d first last bar. searches-too first last bar;
       search-same = λ d c e a first last bar. ap (λ (s : State). searchOutcome s (e .room) first last (bar +ℤ d)) (a .state) ∙ search-same d (c .state) (c .room) (e .room) (alike-along d c e a .twin) first last bar;
+      nexts-many = λ c vs. (refl, refl);
+      lates-many = λ c ts vs. (refl, refl);
+      next-many-same = λ d c e a vs h. ap (λ (s : State). reach (nextMany s (e .room) (movedReadings d vs))) (a .state) ∙ many-same d (next-ends d (c .state) (c .room) (e .room) (alike-along d c e a .twin) (c .tally) vs h);
+      late-many-same = λ d c e a ts vs h. ap (λ (s : State). reach (lateMany s (e .room) (timed ts (movedReadings d vs)))) (a .state) ∙ many-same d (late-ends d (c .state) (c .room) (e .room) (alike-along d c e a .twin) (c .tally) ts vs h);
       replay-same = λ d size gaps r q l m moves long. plays-same d (replay-plays d size gaps r q l m moves long);
       replay-answers = replay-answers;
       replay-refused = replay-refused;

@@ -1,7 +1,8 @@
--- Callers worked by hand: a pin near ground with the readings of H6, a late trace, files from elsewhere, and recordings of the logger; each without an offset and with one of 1,001.
+-- Callers worked by hand: a pin near ground with the readings of H6, a late trace, many readings at one call, files from elsewhere, and recordings of the logger; each without an offset and with one of 1,001.
 use Prim.Native.Nat.{ℕ}
 use mathlib.Core.Path.{_≡_}
 use mathlib.Core.List.{List, [], _∷_, _++_}
+use mathlib.Core.Option.{some, none}
 use lib.IntN.{ℤ, pos, negsuc}
 use lib.ListN.{replicate}
 use Rattle.rule.specs.declared.Found.{Found}
@@ -15,7 +16,7 @@ use Rattle.rule.specs.Calls.{accepted, refused}
 use Rattle.over.specs.declared.Sought.{Sought}
 use Rattle.rule.specs.declared.Measured.{Measured}
 use Rattle.offset.specs.Offset.{AllHigher, FilesMoved, raised}
-use Rattle.offset.specs.Caller.{Answer, Call, Caller, after, answers, drawn, filed, idle, lates, loads, lookups, measured, nexts, opens, pointed, recounted, replays, rows, saves, searches, shown, traced, worsts}
+use Rattle.offset.specs.Caller.{Answer, Call, Caller, after, answers, drawn, filed, idle, lates, latesMany, loads, lookups, measured, nexts, nextsMany, opens, pointed, reached, recounted, replays, rows, saves, searches, shown, traced, worsts}
 
 abbrev pub now : Settings → ℕ → ℕ → ℕ → State
 now g used runs readings = record { settings = g; used = used; runs = runs; readings = readings }
@@ -137,6 +138,40 @@ toldLate x =
     ∷ traced (accepted (now (gappyBase 2 2) 1 1 1))
     ∷ []
 
+-- ---- many readings at one call
+
+-- refused before the first open; then the readings of above at one call, none at all, and one for the other kind; then a late trace: the third of four is at a tick that is held, and the fourth, which would be taken, is not looked at; behind that three readings with two ticks, which the third is without
+abbrev pub manyCalls : ℕ → ℤ → ℤ → ℤ → List Call
+manyCalls n x y z =
+    nextsMany (x ∷ [])
+    ∷ opens (inOrder (Steps 1)) (replicate 12 (pos n))
+    ∷ nextsMany (x ∷ y ∷ z ∷ [])
+    ∷ lookups 1
+    ∷ nextsMany []
+    ∷ latesMany (7 ∷ []) (z ∷ [])
+    ∷ opens (gappy (Steps 1) 2) (replicate 20 (pos n))
+    ∷ latesMany (5 ∷ 4 ∷ 5 ∷ 3 ∷ []) (y ∷ x ∷ z ∷ z ∷ [])
+    ∷ latesMany (6 ∷ 7 ∷ []) (z ∷ z ∷ x ∷ [])
+    ∷ rows (replicate 3 (bucket n n (pos n) (pos n)))
+    ∷ nextsMany (x ∷ y ∷ [])
+    ∷ []
+
+-- by level, least and largest of the first two readings, and the last
+abbrev pub toldMany : ℤ → ℤ → ℤ → ℤ → List Answer
+toldMany level least largest last =
+    reached (now (ofBase 2) 0 0 0) 0 (some Refusal.Unsound)
+    ∷ traced (accepted (now (ofBase 2) 0 0 0))
+    ∷ reached (now (ofBase 2) 2 1 3) 3 none
+    ∷ shown (Found.Level level 2 least largest)
+    ∷ reached (now (ofBase 2) 2 1 3) 0 none
+    ∷ reached (now (ofBase 2) 2 1 3) 0 (some Refusal.Kind)
+    ∷ traced (accepted (now (gappyBase 2 2) 0 0 0))
+    ∷ reached (now (gappyBase 2 2) 2 1 2) 2 (some Refusal.Taken)
+    ∷ reached (now (gappyBase 2 2) 3 1 4) 2 none
+    ∷ drawn (Written.Buckets 3) (bucket 4 1 least least ∷ bucket 5 1 largest largest ∷ bucket 6 2 last last ∷ [])
+    ∷ reached (now (gappyBase 2 2) 3 1 4) 0 (some Refusal.Kind)
+    ∷ []
+
 -- ---- files from elsewhere
 
 -- tick 0 with a reading of these bytes, and a record that breaks a rule, of others; then a byte that is no record
@@ -213,6 +248,8 @@ pub record ByHand : Type 0 where
   pub with-offset : answers (fresh []) (calls 9 (pos 998) (pos 1001) (pos 1051)) ≡ told (pos 999) (pos 998) (pos 1001) (pos 1051)
   pub late-near-ground : answers (fresh []) (lateCalls 7 (negsuc 2) (pos 50)) ≡ toldLate (negsuc 2)
   pub late-with-offset : answers (fresh []) (lateCalls 9 (pos 998) (pos 1051)) ≡ toldLate (pos 998)
+  pub many-near-ground : answers (fresh []) (manyCalls 7 (negsuc 2) (pos 0) (pos 50)) ≡ toldMany (negsuc 1) (negsuc 2) (pos 0) (pos 50)
+  pub many-with-offset : answers (fresh []) (manyCalls 9 (pos 998) (pos 1001) (pos 1051)) ≡ toldMany (pos 999) (pos 998) (pos 1001) (pos 1051)
   pub files-near-ground : answers (fresh files) fileCalls ≡ toldFiles
   pub files-with-offset : answers (fresh filesMoved) fileCalls ≡ toldFiles
   pub replay-near-ground : answers (fresh []) (replayCalls 7 recorded (pos 50)) ≡ toldReplay (negsuc 1) (negsuc 2) (pos 0) (pos 50)
@@ -220,10 +257,12 @@ pub record ByHand : Type 0 where
   -- the tally counts readings and merges, and neither an open nor a load nor a replay changes it
   pub tallied : after (fresh []) (calls 7 (negsuc 2) (pos 0) (pos 50)) .tally ≡ record { accepted = 4; refused = 0; merges = 2 }
   pub late-tallied : after (fresh []) (lateCalls 7 (negsuc 2) (pos 50)) .tally ≡ record { accepted = 5; refused = 2; merges = 1 }
+  pub many-tallied : after (fresh []) (manyCalls 7 (negsuc 2) (pos 0) (pos 50)) .tally ≡ record { accepted = 7; refused = 4; merges = 2 }
   pub replay-tallied : after (fresh []) (replayCalls 7 recorded (pos 50)) .tally ≡ record { accepted = 2; refused = 1; merges = 3 }
   -- the promise speaks of these callers, who have rooms and outputs of their own
   pub calls-higher : AllHigher (pos 1001) (calls 7 (negsuc 2) (pos 0) (pos 50)) (calls 9 (pos 998) (pos 1001) (pos 1051))
   pub late-higher : AllHigher (pos 1001) (lateCalls 7 (negsuc 2) (pos 50)) (lateCalls 9 (pos 998) (pos 1051))
+  pub many-higher : AllHigher (pos 1001) (manyCalls 7 (negsuc 2) (pos 0) (pos 50)) (manyCalls 9 (pos 998) (pos 1001) (pos 1051))
   pub replay-higher : AllHigher (pos 1001) (replayCalls 7 recorded (pos 50)) (replayCalls 9 recordedMoved (pos 1051))
   pub no-files : FilesMoved (pos 1001) [] []
   pub files-moved : FilesMoved (pos 1001) files filesMoved

@@ -1,16 +1,20 @@
 -- A caller who makes any calls in turn, each getting what the last one left: what each answers, and what the caller has then.
 use Prim.Native.Nat.{ℕ, _*_}
 use mathlib.Core.List.{List, [], _∷_}
+use mathlib.Core.Option.{Option}
 use lib.IntN.{ℤ}
 use lib.ListN.{getD, length, take}
 use Rattle.rule.specs.declared.Bucket.{Bucket}
 use Rattle.rule.specs.declared.Found.{Found}
 use Rattle.rule.specs.declared.Opening.{Opening}
+use Rattle.rule.specs.declared.Refusal.{Refusal}
 use Rattle.rule.specs.declared.Size.{Size}
 use Rattle.rule.specs.declared.State.{State}
 use Rattle.rule.specs.declared.Tally.{Tally}
 use Rattle.rule.specs.declared.Written.{Written}
 use Rattle.rule.specs.Calls.{Verdict, accepted, counted, lateOutcome, loaded, lookupOutcome, nextOutcome, onward, opened, refused, rowOutcome, saveOutcome, worstOutcome}
+use Rattle.series.specs.Counts.{tallied}
+use Rattle.series.specs.Series.{Fed, lateCall, lateMany, nextCall, nextMany, timed}
 use Rattle.over.specs.declared.Sought.{Sought}
 use Rattle.over.specs.Search.{searchOutcome}
 use Rattle.logger.specs.Replay.{Course, replayOutcome}
@@ -27,11 +31,13 @@ pub record Caller : Type 0 where
 abbrev pub idle : State → Tally → List (List ℕ) → Caller
 idle s t files = record { state = s; room = []; tally = t; files = files }
 
--- a call, with what is named and lent at it: a search gets the first and the last tick of a range and a bar, open, load and replay get a room, row and save an output, load the place of a file, and replay a recording
+-- a call, with what is named and lent at it: many readings are a list, those of late beside a list of ticks, a search gets the first and the last tick of a range and a bar, open, load and replay get a room, row and save an output, load the place of a file, and replay a recording
 pub data Call : Type 0 where
   opens : Opening → List ℤ → Call
   nexts : ℤ → Call
   lates : ℕ → ℤ → Call
+  nextsMany : List ℤ → Call
+  latesMany : List ℕ → List ℤ → Call
   lookups : ℕ → Call
   searches : ℕ → ℕ → ℤ → Call
   worsts : Call
@@ -40,9 +46,10 @@ pub data Call : Type 0 where
   loads : Opening → ℕ → List ℤ → Call
   replays : (size : Size) (gaps : ℕ) (recording : List ℕ) (room : List ℤ) → Call
 
--- of open, next, late and load; of lookup; of the search; of the worst error; of row, with the buckets that it wrote; of save; of replay, with two counts
+-- of open, next, late and load; of many readings, the state to go on with, how many were accepted and the refusal that ended it, if one did; of lookup; of the search; of the worst error; of row, with the buckets that it wrote; of save; of replay, with two counts
 pub data Answer : Type 0 where
   traced : Verdict State → Answer
+  reached : State → ℕ → Option Refusal → Answer
   shown : Found → Answer
   pointed : Sought → Answer
   measured : Measured → Answer
@@ -64,10 +71,16 @@ unfoldable pub recount : Verdict Course → Verdict (State × ℕ × ℕ)
 recount (refused r) = refused r
 recount (accepted k) = accepted (k .state, length (k .landed), k .refused)
 
+-- how far many readings came
+abbrev pub reach : Fed → Answer
+reach f = reached (f .state) (f .accepted) (f .refusal)
+
 unfoldable pub answer : Caller → Call → Answer
 answer c (opens g l) = traced (opened g l .0)
 answer c (nexts v) = traced (nextOutcome (c .state) (c .room) v .0)
 answer c (lates tick v) = traced (lateOutcome (c .state) (c .room) tick v .0)
+answer c (nextsMany vs) = reach (nextMany (c .state) (c .room) vs)
+answer c (latesMany ts vs) = reach (lateMany (c .state) (c .room) (timed ts vs))
 answer c (lookups tick) = shown (lookupOutcome (c .state) (c .room) tick)
 answer c (searches first last bar) = pointed (searchOutcome (c .state) (c .room) first last bar)
 answer c worsts = measured (worstOutcome (c .state) (c .room))
@@ -80,6 +93,10 @@ answer c (replays size gaps recording l) = recounted (recount (replayOutcome siz
 abbrev pub fed : Caller → Verdict State × List ℤ → Caller
 fed c o =
     record { state = onward (c .state) (o .0); room = o .1; tally = counted (c .tally) (c .state .used) (o .0); files = c .files }
+
+-- after many readings, with the tally that has counted each as by itself
+abbrev pub fedMany : Caller → Fed → Tally → Caller
+fedMany c f t = record { state = f .state; room = f .room; tally = t; files = c .files }
 
 -- after an open or a load: the new trace in its room, or after a refusal the trace at hand
 unfoldable pub begun : Caller → Verdict State → List ℤ → Caller
@@ -100,6 +117,8 @@ unfoldable pub left : Caller → Call → Caller
 left c (opens g l) = let o = opened g l in begun c (o .0) (o .1)
 left c (nexts v) = fed c (nextOutcome (c .state) (c .room) v)
 left c (lates tick v) = fed c (lateOutcome (c .state) (c .room) tick v)
+left c (nextsMany vs) = fedMany c (nextMany (c .state) (c .room) vs) (tallied nextCall (c .tally) (c .state) (c .room) vs)
+left c (latesMany ts vs) = fedMany c (lateMany (c .state) (c .room) (timed ts vs)) (tallied lateCall (c .tally) (c .state) (c .room) (timed ts vs))
 left c (lookups tick) = c
 left c (searches first last bar) = c
 left c worsts = c

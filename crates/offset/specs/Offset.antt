@@ -19,10 +19,12 @@ use Rattle.rule.specs.Calls.{Verdict, accepted, refused}
 use Rattle.rule.specs.Room.{signed, sound, tableOf}
 use Rattle.rule.specs.Table.{Table, worst}
 use Rattle.storage.specs.Bytes.{AllBytes}
+use Rattle.series.specs.Counts.{tallied}
+use Rattle.series.specs.Series.{Fed, lateCall, lateMany, nextCall, nextMany, timed}
 use Rattle.over.specs.Search.{searchOutcome}
 use Rattle.logger.specs.declared.Frame.{Frame}
 use Rattle.logger.specs.Replay.{Course, Landed, framesOf, replayOutcome}
-use Rattle.offset.specs.Caller.{Answer, Call, Caller, after, answer, answers, drawn, filed, idle, lates, left, loads, lookups, measured, nexts, opens, pointed, recounted, replays, rows, saves, searches, shown, traced, worsts}
+use Rattle.offset.specs.Caller.{Answer, Call, Caller, after, answer, answers, drawn, filed, idle, lates, latesMany, left, loads, lookups, measured, nexts, nextsMany, opens, pointed, reach, reached, recounted, replays, rows, saves, searches, shown, traced, worsts}
 
 -- ---- d higher, d being any whole number
 
@@ -32,6 +34,10 @@ moved d b = record { start = b .start; count = b .count; least = b .least +ℤ d
 
 abbrev pub movedAll : ℤ → Table → Table
 movedAll d t = map (moved d) t
+
+-- readings, each d more
+abbrev pub movedReadings : ℤ → List ℤ → List ℤ
+movedReadings d vs = map (λ v. v +ℤ d) vs
 
 -- a record of a recording: the same counter, its reading d more
 abbrev pub movedFrame : ℤ → Frame → Frame
@@ -49,6 +55,7 @@ movedFound d (Found.Refused r) = Found.Refused r
 -- states, refusals with number and place, the index and start of a bucket that is over, errors and counts are the same
 unfoldable pub movedAnswer : ℤ → Answer → Answer
 movedAnswer d (traced v) = traced v
+movedAnswer d (reached s n r) = reached s n r
 movedAnswer d (shown f) = shown (movedFound d f)
 movedAnswer d (pointed s) = pointed s
 movedAnswer d (measured e) = measured e
@@ -83,11 +90,13 @@ pub record RecordingMoved (d : ℤ) (r q : List ℕ) : Type 0 where
   pub records : framesOf q ≡ map (movedFrame d) (framesOf r)
   pub fit : AllFit d (readingsOf r)
 
--- the same call by a second caller, whose reading is d more and fits 32 bits as the first one's does, whose bar is d more, and whose recording is so moved; each lends a room or an output of its own, as long as the other's
+-- the same call by a second caller, whose reading is d more and fits 32 bits as the first one's does, each of many at one call so and at the same tick, whose bar is d more, and whose recording is so moved; each lends a room or an output of its own, as long as the other's
 pub data Higher (d : ℤ) : Call → Call → Type 0 where
   opens-too : (g : Opening) (l m : List ℤ) → length m ≡ length l → Higher d (opens g l) (opens g m)
   nexts-too : (v : ℤ) → signed v ≡ true → signed (v +ℤ d) ≡ true → Higher d (nexts v) (nexts (v +ℤ d))
   lates-too : (tick : ℕ) (v : ℤ) → signed v ≡ true → signed (v +ℤ d) ≡ true → Higher d (lates tick v) (lates tick (v +ℤ d))
+  nexts-many-too : (vs : List ℤ) → AllFit d vs → Higher d (nextsMany vs) (nextsMany (movedReadings d vs))
+  lates-many-too : (ts : List ℕ) (vs : List ℤ) → AllFit d vs → Higher d (latesMany ts vs) (latesMany ts (movedReadings d vs))
   lookups-too : (tick : ℕ) → Higher d (lookups tick) (lookups tick)
   searches-too : (first last : ℕ) (bar : ℤ) → Higher d (searches first last bar) (searches first last (bar +ℤ d))
   worsts-too : Higher d worsts worsts
@@ -118,6 +127,8 @@ unfoldable pub higher : ℤ → Call → Call
 higher d (opens g l) = opens g l
 higher d (nexts v) = nexts (v +ℤ d)
 higher d (lates tick v) = lates tick (v +ℤ d)
+higher d (nextsMany vs) = nextsMany (movedReadings d vs)
+higher d (latesMany ts vs) = latesMany ts (movedReadings d vs)
 higher d (lookups tick) = lookups tick
 higher d (searches first last bar) = searches first last (bar +ℤ d)
 higher d worsts = worsts
@@ -126,12 +137,14 @@ higher d (saves out) = saves out
 higher d (loads g i l) = loads g i l
 higher d (replays size gaps r l) = replays size gaps (raised d r) l
 
--- the readings that calls are fed with, those of a recording too
+-- the readings that calls are fed with, many at one call and those of a recording too
 unfoldable pub readingsIn : List Call → List ℤ
 readingsIn [] = []
 readingsIn (opens g l ∷ xs) = readingsIn xs
 readingsIn (nexts v ∷ xs) = v ∷ readingsIn xs
 readingsIn (lates tick v ∷ xs) = v ∷ readingsIn xs
+readingsIn (nextsMany vs ∷ xs) = vs ++ readingsIn xs
+readingsIn (latesMany ts vs ∷ xs) = vs ++ readingsIn xs
 readingsIn (lookups tick ∷ xs) = readingsIn xs
 readingsIn (searches first last bar ∷ xs) = readingsIn xs
 readingsIn (worsts ∷ xs) = readingsIn xs
@@ -147,6 +160,10 @@ pub record Alike (d : ℤ) (c e : Caller) : Type 0 where
   pub buckets : sound (c .state) (c .room) ≡ true → tableOf (e .state) (e .room) ≡ movedAll d (tableOf (c .state) (c .room))
   pub tally : e .tally ≡ c .tally
   pub files : FilesMoved d (c .files) (e .files)
+
+-- what has come of many readings, with this tally, is what a call answers and leaves; the files stay
+abbrev pub Came : Caller → Call → Fed → Tally → Type 0
+Came c x f t = (answer c x ≡ reached (f .state) (f .accepted) (f .refusal)) × (left c x ≡ record { state = f .state; room = f .room; tally = t; files = c .files })
 
 -- the records that a replay has accepted, last first
 unfoldable pub landedIn : Verdict Course → List Landed
@@ -182,6 +199,13 @@ pub record Offset : Type 0 where
   pub search-any : (d : ℤ) (first last : ℕ) (bar : ℤ) → Higher d (searches first last bar) (searches first last (bar +ℤ d))
   -- with the bar d more, the second gets the first one's answer
   pub search-same : (d : ℤ) (c e : Caller) → Alike d c e → (first last : ℕ) (bar : ℤ) → searchOutcome (e .state) (e .room) first last (bar +ℤ d) ≡ searchOutcome (c .state) (c .room) first last bar
+  -- many readings: the call itself answers and leaves what the single calls in turn do, and the tally counts each as by itself, the refused one too
+  pub nexts-many : (c : Caller) (vs : List ℤ) → Came c (nextsMany vs) (nextMany (c .state) (c .room) vs) (tallied nextCall (c .tally) (c .state) (c .room) vs)
+  pub lates-many : (c : Caller) (ts : List ℕ) (vs : List ℤ) → let rs = timed ts vs in Came c (latesMany ts vs) (lateMany (c .state) (c .room) rs) (tallied lateCall (c .tally) (c .state) (c .room) rs)
+  -- with the readings d more, the second gets the first one's answer: the same ones are accepted, and the same one is refused for the same reason
+  pub next-many-same : (d : ℤ) (c e : Caller) → Alike d c e → (vs : List ℤ) → AllFit d vs → reach (nextMany (e .state) (e .room) (movedReadings d vs)) ≡ reach (nextMany (c .state) (c .room) vs)
+  pub late-many-same : (d : ℤ) (c e : Caller) → Alike d c e → (ts : List ℕ) (vs : List ℤ) → AllFit d vs
+      → reach (lateMany (e .state) (e .room) (timed ts (movedReadings d vs))) ≡ reach (lateMany (c .state) (c .room) (timed ts vs))
   -- a replay: the call itself answers it, with the state and two counts; accepted, its trace and room take the place of those at hand, refused, all stays; tally and files stay either way
   pub replay-answers : (c : Caller) (size : Size) (gaps : ℕ) (r : List ℕ) (l m : List ℤ) (k : Course) → replayOutcome size gaps r l ≡ (accepted k, m)
       → (answer c (replays size gaps r l) ≡ recounted (accepted (k .state, length (k .landed), k .refused))) × (left c (replays size gaps r l) ≡ record { state = k .state; room = m; tally = c .tally; files = c .files })

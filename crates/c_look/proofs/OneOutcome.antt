@@ -4,8 +4,6 @@ use Rattle.rule.proofs.Determined.{by-result}
 use Rattle.c_look.proofs.ndz_lookup as lookup
 use Rattle.c_look.proofs.ndz_first_over as first
 use Rattle.c_look.proofs.ndz_worst as worst
-use Rattle.c_look.proofs.ndz_level as level
-use Rattle.c_look.proofs.ndz_error as error
 
 pub lookup-one : OneOutcome lookup.ended (λ M. lookup.clauses)
 lookup-one M 𝓤 H A mem run κs a g r r′ l l′ = by-result 𝓤
@@ -15,9 +13,3 @@ first-over-one M 𝓤 H A mem run κs a g r r′ l l′ = by-result 𝓤
 
 pub worst-one : OneOutcome worst.ended (λ M. worst.clauses)
 worst-one M 𝓤 H A mem run κs a g r r′ l l′ = by-result 𝓤
-
-pub level-one : OneOutcome level.ended (λ M. level.clauses)
-level-one M 𝓤 H A mem run κs a g r r′ l l′ = by-result 𝓤
-
-pub error-one : OneOutcome error.ended (λ M. error.clauses)
-error-one M 𝓤 H A mem run κs a g r r′ l l′ = by-result 𝓤

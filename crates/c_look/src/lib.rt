@@ -1,6 +1,5 @@
-// The calls for other languages that look at a trace or at a bucket. Each hands on to the call of its name and does nothing of its own.
+// The calls for other languages that look at a trace. Each hands on to the call of its name and does nothing of its own.
 ghost use mathlib.Core.Path.{_≡_};
-ghost use Rattle.rule.specs.Bucket.{error, level};
 ghost use Rattle.plain.specs.Plain.{lookupReply, searchReply, worstReply};
 use fields::Fields;
 use fields::trace_of;
@@ -10,7 +9,6 @@ use plain::WorstError;
 use plain::erring;
 use plain::pointing;
 use plain::showing;
-use rule::Bucket;
 
 #[no_mangle]
 pub extern "C" fn ndz_lookup(state: Fields, room: &[i64], tick: u32) -> Shown
@@ -40,18 +38,4 @@ pub extern "C" fn ndz_worst(state: Fields, room: &[i64]) -> WorstError
 {
     let trace = trace_of(state);
     erring(worst::worst(trace, room))
-}
-
-#[no_mangle]
-pub extern "C" fn ndz_level(bucket: Bucket) -> i32
-    ensures { λ r. ⌜ r ≡ level bucket ⌝ }
-{
-    bucket::level(bucket)
-}
-
-#[no_mangle]
-pub extern "C" fn ndz_error(bucket: Bucket) -> u32
-    ensures { λ r. ⌜ r ≡ error bucket ⌝ }
-{
-    bucket::error(bucket)
 }

@@ -26,5 +26,5 @@ pub extern "C" fn ndz_late_many(
     ensures { λ r. ⌜ (r, now (room .exit)) ≡ lateManyReply state (now (room .entry)) (now (ticks .entry)) (now (values .entry)) ⌝ }
 {
     let trace = trace_of(state);
-    feeding(state, many::late(trace, &mut *room, ticks, values))
+    feeding(state, many_late::late(trace, &mut *room, ticks, values))
 }

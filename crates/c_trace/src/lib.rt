@@ -50,5 +50,5 @@ pub extern "C" fn ndz_load(named: Named, file: &[u8], room: &mut [i64]) -> Reply
     ensures { λ r. ⌜ (r, now (room .exit)) ≡ loadReply named (now (file .entry)) (now (room .entry)) ⌝ }
 {
     let wanted = opening_of(named);
-    replying(none(), saved::load(wanted, file, &mut *room))
+    replying(none(), loaded::load(wanted, file, &mut *room))
 }

@@ -183,7 +183,7 @@ fn call(word: u64, given: &[u64; 17], trace: Trace, room: &mut [i64], file: &[u8
         line::OPEN => Trace::open(opening_of(given), &mut *room),
         line::NEXT => trace.next(&mut *room, value(given)),
         line::LATE => trace.late(&mut *room, tick(given), value(given)),
-        _ => saved::load(opening_of(given), file, &mut *room),
+        _ => loaded::load(opening_of(given), file, &mut *room),
     }
 }
 
@@ -220,7 +220,7 @@ fn late_many(
     let lent = &ticks[first..first + count];
     let from = least(given[FROM] as usize, values.len());
     let more = least(given[VALUES] as usize, values.len() - from);
-    let progress = many::late(trace, &mut *room, lent, &values[from..from + more]);
+    let progress = many_late::late(trace, &mut *room, lent, &values[from..from + more]);
     show::fed(b"latemany", progress);
     show::numbers(b" room ", room);
     show::text(b"\n");

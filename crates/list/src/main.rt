@@ -8,7 +8,7 @@ fn main() {
     let mut room = [0i64; 3076];
     let mut line = [0u8; 64];
     let mut piece = io::large_buffer();
-    let mut state = reader::begin(&mut room);
+    let mut state = begin::begin(&mut room);
     let mut more = true;
     while more {
         let got = libc::read(libc::STDIN_FILENO, &mut piece);
@@ -21,7 +21,7 @@ fn main() {
             more = false;
         } else {
             state = gathering::piece(state, &mut room, &mut line, &piece[0..n]);
-            if reader::ended(state) {
+            if begin::ended(state) {
                 more = false;
             }
         }
@@ -30,5 +30,5 @@ fn main() {
     let mut out = [0u8; 49216];
     let n = show(state, &room, &mut out);
     let written = io::write_all(libc::STDOUT_FILENO, &out[0..n]);
-    ending::shown(reader::ended(state), written);
+    ending::shown(begin::ended(state), written);
 }

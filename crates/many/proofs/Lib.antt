@@ -1,4 +1,3 @@
 -- Laws that belong to no one function.
-pub mod Looping
 pub mod Calling
 pub mod OneOutcome

@@ -1,28 +1,9 @@
-// The listing's input begun and ended.
+// The end of the listing's input.
 ghost use mathlib.Core.Path.{_≡_};
-ghost use Rattle.listing.specs.Feeding.{fresh, hasEnded, restFed};
+ghost use Rattle.listing.specs.Feeding.{restFed};
 use lines::line_ended;
 use listing::Feeding;
-use listing::Stage;
-use rule::Size;
 use trace::Answer;
-use trace::Trace;
-
-// B where no line names it. Nothing else has a default.
-const DEFAULT_STEPS: usize = 32;
-
-// A trace of the default steps, with nothing read.
-pub fn begin(room: &mut [i64]) -> Feeding
-    ensures { λ r. ⌜ (r, now (room .exit)) ≡ fresh (now (room .entry)) ⌝ }
-{
-    let last = Trace::open(openings::in_order(Size::Steps(DEFAULT_STEPS)), &mut *room);
-    Feeding {
-        last,
-        stage: Stage::Nothing,
-        lines: 0,
-        filled: 0,
-    }
-}
 
 // The input's end.
 pub fn rest(f: Feeding, room: &mut [i64], line: &[u8]) -> Feeding
@@ -36,15 +17,4 @@ pub fn rest(f: Feeding, room: &mut [i64], line: &[u8]) -> Feeding
         return f;
     }
     line_ended(f, t, &mut *room, line)
-}
-
-// Whether a line was refused: nothing more need be read.
-pub fn ended(f: Feeding) -> bool
-    ensures { λ r. ⌜ r ≡ hasEnded (f .last) ⌝ }
-{
-    let last = f.last;
-    match last {
-        Answer::Accepted(_) => false,
-        Answer::Refused(_) => true,
-    }
 }

@@ -1,5 +1,3 @@
 -- Laws that belong to no one function.
-pub mod Stepping
-pub mod Feeding
 pub mod Calling
 pub mod OneOutcome

@@ -1,3 +1,2 @@
--- The answer of a replay as code has it, and what its loop has come to.
+-- The answer of a replay as code has it.
 pub mod Answers
-pub mod Progress

@@ -1,33 +1,16 @@
 // What an accepted reading does to the room. It asks for slots that are there and hold buckets, as they are in a sound trace.
 ghost use mathlib.Core.Path.{_≡_};
 ghost use lib.ListN.{length};
-ghost use Rattle.rule.specs.Room.{laid, slots, tableOf};
-ghost use Rattle.rule.specs.Table.{accept, needed, settle};
-ghost use Rattle.rooms.specs.Steps.{Ready, Settling};
-use lower::merge;
+ghost use Rattle.rule.specs.Room.{laid, tableOf};
+ghost use Rattle.rule.specs.Table.{accept, needed};
+ghost use Rattle.rooms.specs.Steps.{Ready};
+use inserted::cheapest_with;
 use merges::insert_merged;
 use moves::insert;
 use rule::Bucket;
-use rule::Settings;
 use rule::State;
-use scan::cheapest;
-use scan::cheapest_with;
 use settings::limit;
-
-// While the buckets are more than the limit, the cheapest neighbours are merged. Answers how many buckets are left; the slots freed are cleared.
-pub(crate) fn settle(s: Settings, runs: usize, room: &mut [i64], used: usize) -> usize
-    requires { ⌜ Settling s runs (now room) used ⌝ }
-    ensures { λ r. ⌜ (r ≡ length (settle s (slots (now (room .entry)) 0 used))) × (now (room .exit) ≡ laid used (settle s (slots (now (room .entry)) 0 used)) (now (room .entry))) ⌝ }
-{
-    let most = limit(s, runs);
-    let mut left = used;
-    while most < left {
-        let at = cheapest(&*room, left);
-        merge(&mut *room, left, at);
-        left -= 1;
-    }
-    left
-}
+use settle::settle;
 
 // What an accepted reading does to the room: it goes to its place, and the cheapest neighbours are merged while the buckets are more than the limit; the first merge is made on the way in.
 // Answers how many buckets there are then.

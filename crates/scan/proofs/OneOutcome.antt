@@ -1,15 +1,11 @@
 -- Each public function's contract allows one outcome.
 use Rattle.rule.specs.Outcomes.{OneOutcome}
 use Rattle.rule.proofs.Determined.{by-result}
-use Rattle.scan.proofs.cheapest as cheapest
-use Rattle.scan.proofs.least_cost as least-cost
-use Rattle.scan.proofs.cheapest_with as cheapest-with
+use Rattle.scan.proofs.better as better
+use Rattle.scan.proofs.pass as pass
 
-pub cheapest-one : OneOutcome cheapest.ended (λ M. cheapest.clauses)
-cheapest-one M 𝓤 H A mem run κs a g r r′ l l′ = by-result 𝓤
+pub better-one : OneOutcome better.ended (λ M. better.clauses)
+better-one M 𝓤 H A mem run κs a g r r′ l l′ = by-result 𝓤
 
-pub least-cost-one : OneOutcome least-cost.ended (λ M. least-cost.clauses)
-least-cost-one M 𝓤 H A mem run κs a g r r′ l l′ = by-result 𝓤
-
-pub cheapest-with-one : OneOutcome cheapest-with.ended (λ M. cheapest-with.clauses)
-cheapest-with-one M 𝓤 H A mem run κs a g r r′ l l′ = by-result 𝓤
+pub pass-one : OneOutcome pass.ended (λ M. pass.clauses)
+pass-one M 𝓤 H A mem run κs a g r r′ l l′ = by-result 𝓤

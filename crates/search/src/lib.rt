@@ -1,42 +1,15 @@
 // Where the pin first goes over: the first bucket of a range whose largest reading is at or above a bar.
 ghost use mathlib.Core.Path.{_≡_};
-ghost use Rattle.over.specs.Search.{firstOver, over, searchOutcome, sought, touches};
+ghost use Rattle.over.specs.Search.{firstOver, searchOutcome, sought};
 ghost use Rattle.rule.specs.Room.{slots};
 ghost use Rattle.search.specs.Reading.{Readable};
 use over::Sought;
-use rule::Bucket;
 use rule::Refusal;
 use rule::TICKS;
 use slots::read;
 use sound::sound;
+use touches::over;
 use trace::Trace;
-
-// A tick from `first` to `last` is in the bucket.
-pub(crate) fn touches(first: u32, last: u32, b: Bucket) -> bool
-    ensures { λ r. ⌜ r ≡ touches first last b ⌝ }
-{
-    let past = last as usize + 1;
-    let end = bucket::end(b);
-    if past <= first as usize {
-        return false;
-    }
-    if end <= first as usize {
-        return false;
-    }
-    if past <= b.start as usize {
-        return false;
-    }
-    (b.start as usize) < end
-}
-
-pub(crate) fn over(first: u32, last: u32, bar: i32, b: Bucket) -> bool
-    ensures { λ r. ⌜ r ≡ over first last bar b ⌝ }
-{
-    if b.largest < bar {
-        return false;
-    }
-    touches(first, last, b)
-}
 
 // One pass over the slots in use, left at the first bucket that is over. Of the slots it knows only those that no hit stands before.
 pub(crate) fn first_hit(room: &[i64], used: usize, first: u32, last: u32, bar: i32) -> Sought

@@ -10,8 +10,8 @@ use lib.ListN.{getD}
 use Rattle.rule.specs.declared.State.{State}
 use Rattle.rule.specs.Room.{allOf, baseGood, clauses, gapsGood, restZero, roomy, runsAllowed, sound}
 use Rattle.rule.specs.Table.{limit}
-use Rattle.sound.proofs.Tests.{fails}
-use Rattle.sound.proofs.Scanning.{scanned}
+use Rattle.passes.proofs.Tests.{fails}
+use Rattle.passes.proofs.Scanning.{scanned}
 use Rattle.rooms.proofs.Bounds.{limit-gaps, mostAllowed, needed-small}
 
 abbrev pub tests : State → List ℤ → List Bool

@@ -1,5 +1,3 @@
 -- Laws that belong to no one function.
-pub mod Tests
-pub mod Scanning
 pub mod Clauses
 pub mod OneOutcome

@@ -10,7 +10,7 @@ use Rattle.rule.specs.Room.{allOf, restZero, roomy}
 use Rattle.rule.specs.Table.{limit, needed}
 use Rattle.rule.proofs.Ruling.{flipped}
 use Rattle.rooms.proofs.Bounds.{mostAllowed}
-use Rattle.sound.proofs.Scanning.{scanned}
+use Rattle.passes.proofs.Scanning.{scanned}
 use Rattle.sound.proofs.Clauses.{Limits, limits, sound-tests, unsound}
 use borrow.Author.Needs.{needs}
 use Rattle.sound.proofs.sound.Statement.{statement}

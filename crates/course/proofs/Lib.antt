@@ -1,0 +1,4 @@
+-- Laws that belong to no one function.
+pub mod Stepping
+pub mod Feeding
+pub mod OneOutcome

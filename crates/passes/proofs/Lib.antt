@@ -1,0 +1,4 @@
+-- Laws that belong to no one function.
+pub mod Tests
+pub mod Scanning
+pub mod OneOutcome

@@ -1,0 +1,2 @@
+-- Readings in order taken in scratch places, step by step.
+pub mod Standing

@@ -6,9 +6,9 @@ use fields::trace_of;
 use plain::Hit;
 use plain::Shown;
 use plain::WorstError;
-use plain::erring;
-use plain::pointing;
-use plain::showing;
+use shown::erring;
+use shown::pointing;
+use shown::showing;
 
 #[no_mangle]
 pub extern "C" fn ndz_lookup(state: Fields, room: &[i64], tick: u32) -> Shown

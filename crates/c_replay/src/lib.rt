@@ -4,7 +4,7 @@ ghost use Rattle.plain.specs.Plain.{replayReply};
 use fields::Named;
 use fields::opening_of;
 use plain::Recount;
-use plain::recounting;
+use recount::recounting;
 use replay::replay;
 
 #[no_mangle]

@@ -1,13 +1,8 @@
-// Each answer as a plain record for other languages.
+// The records that answers become for other languages, and the answers of those that open, feed, save and load.
 ghost use mathlib.Core.Path.{_≡_};
-ghost use Rattle.plain.specs.Plain.{erring, pointing, recounting, replying, showing, telling};
+ghost use Rattle.plain.specs.Plain.{replying, telling};
 use fields::Fields;
 use fields::fields_of;
-use fields::none;
-use over::Sought;
-use replay::Replayed;
-use rule::Found;
-use rule::Measured;
 use rule::Written;
 use trace::Answer;
 
@@ -83,87 +78,6 @@ pub fn replying(given: Fields, a: Answer) -> Reply
     }
 }
 
-pub fn recounting(a: Replayed) -> Recount
-    ensures { λ r. ⌜ r ≡ recounting a ⌝ }
-{
-    match a {
-        Replayed::Done {
-            trace,
-            accepted,
-            refused,
-        } => Recount {
-            refusal: 0,
-            place: 0,
-            state: fields_of(trace.state),
-            accepted,
-            refused,
-        },
-        Replayed::Refused(r) => Recount {
-            refusal: refusal::number(r),
-            place: refusal::place(r),
-            state: none(),
-            accepted: 0,
-            refused: 0,
-        },
-    }
-}
-
-pub fn showing(f: Found) -> Shown
-    ensures { λ r. ⌜ r ≡ showing f ⌝ }
-{
-    match f {
-        Found::Level {
-            level,
-            error,
-            least,
-            largest,
-        } => Shown {
-            refusal: 0,
-            place: 0,
-            level,
-            error,
-            least,
-            largest,
-        },
-        Found::Refused(r) => Shown {
-            refusal: refusal::number(r),
-            place: refusal::place(r),
-            level: 0,
-            error: 0,
-            least: 0,
-            largest: 0,
-        },
-    }
-}
-
-pub fn pointing(s: Sought) -> Hit
-    ensures { λ r. ⌜ r ≡ pointing s ⌝ }
-{
-    match s {
-        Sought::At { index, start } => Hit {
-            refusal: 0,
-            place: 0,
-            found: 1,
-            index,
-            start,
-        },
-        Sought::Nowhere => Hit {
-            refusal: 0,
-            place: 0,
-            found: 0,
-            index: 0,
-            start: 0,
-        },
-        Sought::Refused(r) => Hit {
-            refusal: refusal::number(r),
-            place: refusal::place(r),
-            found: 0,
-            index: 0,
-            start: 0,
-        },
-    }
-}
-
 pub fn telling(w: Written) -> Counted
     ensures { λ r. ⌜ r ≡ telling w ⌝ }
 {
@@ -177,23 +91,6 @@ pub fn telling(w: Written) -> Counted
             refusal: refusal::number(r),
             place: refusal::place(r),
             buckets: 0,
-        },
-    }
-}
-
-pub fn erring(m: Measured) -> WorstError
-    ensures { λ r. ⌜ r ≡ erring m ⌝ }
-{
-    match m {
-        Measured::Error(greatest) => WorstError {
-            refusal: 0,
-            place: 0,
-            error: greatest,
-        },
-        Measured::Refused(r) => WorstError {
-            refusal: refusal::number(r),
-            place: refusal::place(r),
-            error: 0,
         },
     }
 }

@@ -1,8 +1,8 @@
--- `plain::erring` meets its contract: its arms are those of the definition.
+-- `shown::erring` meets its contract: its arms are those of the definition.
 use borrow.Author.Needs.{needs}
 use Rattle.plain.specs.Plain.{erring}
-use Rattle.plain.proofs.erring.Statement.{statement}
-use Rattle.plain.proofs.erring.Tie as tie
+use Rattle.shown.proofs.erring.Statement.{statement}
+use Rattle.shown.proofs.erring.Tie as tie
 
 returns : tie.Need-returns
 unfolding erring

@@ -1,10 +1,10 @@
--- `plain::showing` meets its contract: its arms are those of the definition.
+-- `shown::showing` meets its contract: its arms are those of the definition.
 use borrow.Author.Needs.{needs}
 use mir.Syntax.{w32}
 use Rattle.rule.proofs.Signed.{read}
 use Rattle.plain.specs.Plain.{showing}
-use Rattle.plain.proofs.showing.Statement.{statement}
-use Rattle.plain.proofs.showing.Tie as tie
+use Rattle.shown.proofs.showing.Statement.{statement}
+use Rattle.shown.proofs.showing.Tie as tie
 
 returns : tie.Need-returns
 unfolding showing

@@ -1,8 +1,8 @@
--- `plain::recounting` meets its contract: its arms are those of the definition.
+-- `recount::recounting` meets its contract: its arms are those of the definition.
 use borrow.Author.Needs.{needs}
 use Rattle.plain.specs.Plain.{recounting}
-use Rattle.plain.proofs.recounting.Statement.{statement}
-use Rattle.plain.proofs.recounting.Tie as tie
+use Rattle.recount.proofs.recounting.Statement.{statement}
+use Rattle.recount.proofs.recounting.Tie as tie
 
 returns : tie.Need-returns
 unfolding recounting

@@ -1,8 +1,8 @@
--- `plain::pointing` meets its contract: its arms are those of the definition.
+-- `shown::pointing` meets its contract: its arms are those of the definition.
 use borrow.Author.Needs.{needs}
 use Rattle.plain.specs.Plain.{pointing}
-use Rattle.plain.proofs.pointing.Statement.{statement}
-use Rattle.plain.proofs.pointing.Tie as tie
+use Rattle.shown.proofs.pointing.Statement.{statement}
+use Rattle.shown.proofs.pointing.Tie as tie
 
 returns : tie.Need-returns
 unfolding pointing

@@ -1,0 +1,2 @@
+-- What the last bucket of a full table takes.
+pub mod Widened

@@ -105,9 +105,9 @@ static void make_values(int flip, size_t count)
         values[i] = flip ? (int32_t)(i & 1) * 1000 : value_at((uint32_t)i);
 }
 
-enum { ONE_CALL, PRICES, TREE, HAND, BLOCKS_OF_16, BLOCKS_OF_32, WAYS };
+enum { ONE_CALL, PRICES, TREE, HAND, BLOCKS_OF_16, BLOCKS_OF_32, BLOCKS_OF_64, WAYS };
 
-static const many_call ways[WAYS] = {ndz_next_many, plain_prices, plain_tree, plain_hand, plain_16, plain_32};
+static const many_call ways[WAYS] = {ndz_next_many, plain_prices, plain_tree, plain_hand, plain_16, plain_32, plain_64};
 
 /* Single calls take fewer readings, `few`, which are fed at one call as well and compared. */
 static void row(const char *input, ndz_settings settings, size_t count, size_t few)
@@ -141,8 +141,8 @@ static void row(const char *input, ndz_settings settings, size_t count, size_t f
 static void in_order(size_t count)
 {
     static const uint64_t sizes[] = {1, 4, 16, 32, 64, 256};
-    printf("| input | single calls | one call | plain C, single calls | prices kept | tree | in hand | blocks of 16 | blocks of 32 | one call/best |\n"
-           "|---|---|---|---|---|---|---|---|---|---|\n");
+    printf("| input | single calls | one call | plain C, single calls | prices kept | tree | in hand | blocks of 16 | blocks of 32 | blocks of 64 | one call/best |\n"
+           "|---|---|---|---|---|---|---|---|---|---|---|\n");
     for (int flip = 0; flip < 2; flip++) {
         const char *input = flip ? "flip" : "wave";
         make_values(flip, count);

@@ -26,9 +26,9 @@ const LENGTHS: [usize; 11] = [
 /// From this one on a call is a long one.
 const LONG: usize = 300;
 /// Base limits at which readings in order go past the limit in one call.
-const SIZES: [u64; 14] = [1, 2, 3, 4, 30, 31, 32, 33, 34, 128, 493, 494, 511, 512];
-/// A stretch is C and so many readings more, at most so many.
-const STRETCH: u64 = 16;
+const SIZES: [u64; 14] = [1, 2, 3, 4, 30, 31, 32, 33, 34, 128, 230, 231, 511, 512];
+/// A stretch is 2C and so many readings more, at most so many.
+const STRETCH: u64 = 48;
 const LONGEST_STRETCH: u64 = 510;
 const STRETCHES: u64 = 3;
 /// So many readings of one sort follow each other.
@@ -179,9 +179,9 @@ impl Feed<'_> {
 
 const BESIDE: [(&str, i64); 3] = [("", 0), (", one less", -1), (", one more", 1)];
 
-/// About as many readings as there may be buckets.
+/// About twice as many readings as there may be buckets.
 pub fn stretch(base: u64) -> u64 {
-    (base + STRETCH).min(LONGEST_STRETCH)
+    (2 * base + STRETCH).min(LONGEST_STRETCH)
 }
 
 fn readings(word: Word) -> String {

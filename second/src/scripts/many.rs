@@ -293,11 +293,11 @@ impl Script {
         }
     }
 
-    /// As many readings as C + 16 and its multiples, of large C as 510 and its, up to two less and two more, into an empty trace and on from there; and as many as make 510 or
+    /// As many readings as 2C + 48 and its multiples, of large C as 510 and its, up to two less and two more, into an empty trace and on from there; and as many as make 510 or
     /// 1,022 with the buckets that are there.
     fn many_stretches(&mut self) {
         self.heading("# many readings in order, stretches");
-        let bases = [4, 30, 31, 32, 33, 34, 64, 128, 493, 494, 511, 512];
+        let bases = [4, 30, 31, 32, 33, 34, 64, 128, 230, 231, 511, 512];
         for (turn, base) in bases.into_iter().enumerate() {
             let sorts = if is_large(Size::Base(base)) { 2 } else { 4 };
             let stretch = feeds::stretch(base) as usize;

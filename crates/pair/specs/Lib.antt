@@ -1,0 +1,2 @@
+-- Readings in order taken by two buckets in hand.
+pub mod Pair

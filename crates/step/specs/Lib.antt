@@ -1,2 +1,0 @@
--- Readings in order taken in scratch places, step by step.
-pub mod Standing

@@ -6,7 +6,7 @@
  *   record. After a refusal nothing that was lent has changed, but for the count of refused readings in a tally, and where
  *   many readings are handed over for those before the refused one. The conditions are tried in the order in which a
  *   call lists its refusals, and the first that holds is the one given. All this is proved of the functions themselves
- *   (crates/c_trace, c_look, c_bucket, c_lend, c_replay, c_many), for any numbers and bytes.
+ *   (crates/c_trace, c_file, c_look, c_bucket, c_lend, c_replay, c_many), for any numbers and bytes.
  *
  * What every call needs
  *   A pointer comes with the number of its elements: `numbers` counts numbers of 64 bits, not slots and not bytes. It must

@@ -4,8 +4,6 @@ use Rattle.rule.proofs.Determined.{by-pair}
 use Rattle.c_trace.proofs.ndz_open as opens
 use Rattle.c_trace.proofs.ndz_next as next
 use Rattle.c_trace.proofs.ndz_late as late
-use Rattle.c_trace.proofs.ndz_save as save
-use Rattle.c_trace.proofs.ndz_load as load
 
 pub open-one : OneOutcome opens.ended (λ M. opens.clauses)
 open-one M 𝓤 H A mem run κs a g r r′ l l′ = by-pair 𝓤 (λ x. (l .0, (x, l .1 .1)))
@@ -15,9 +13,3 @@ next-one M 𝓤 H A mem run κs a g r r′ l l′ = by-pair 𝓤 (λ x. (l .0, (
 
 pub late-one : OneOutcome late.ended (λ M. late.clauses)
 late-one M 𝓤 H A mem run κs a g r r′ l l′ = by-pair 𝓤 (λ x. (l .0, (x, l .1 .1)))
-
-pub save-one : OneOutcome save.ended (λ M. save.clauses)
-save-one M 𝓤 H A mem run κs a g r r′ l l′ = by-pair 𝓤 (λ x. (l .0, (l .1 .0, (x, l .1 .1 .1))))
-
-pub load-one : OneOutcome load.ended (λ M. load.clauses)
-load-one M 𝓤 H A mem run κs a g r r′ l l′ = by-pair 𝓤 (λ x. (l .0, (l .1 .0, (x, l .1 .1 .1))))

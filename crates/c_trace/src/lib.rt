@@ -1,16 +1,14 @@
-// The calls for other languages that open, feed, save and load a trace: plain C functions over lent numbers and bytes, the state as plain fields.
+// The calls for other languages that open and feed a trace: plain C functions over lent numbers and bytes, the state as plain fields.
 // include/ndezulangi.h is the manual of all exported functions. Each hands on to the call of its name and does nothing of its own.
 ghost use mathlib.Core.Path.{_≡_};
-ghost use Rattle.plain.specs.Plain.{lateReply, loadReply, nextReply, openReply, saveReply};
+ghost use Rattle.plain.specs.Plain.{lateReply, nextReply, openReply};
 use fields::Fields;
 use fields::Named;
 use fields::none;
 use fields::opening_of;
 use fields::trace_of;
-use plain::Counted;
 use plain::Reply;
 use plain::replying;
-use plain::telling;
 use trace::Trace;
 
 #[no_mangle]
@@ -35,20 +33,4 @@ pub extern "C" fn ndz_late(state: Fields, room: &mut [i64], tick: u32, value: i3
 {
     let trace = trace_of(state);
     replying(state, trace.late(&mut *room, tick, value))
-}
-
-#[no_mangle]
-pub extern "C" fn ndz_save(state: Fields, room: &[i64], out: &mut [u8]) -> Counted
-    ensures { λ r. ⌜ (r, now (out .exit)) ≡ saveReply state (now (room .entry)) (now (out .entry)) ⌝ }
-{
-    let trace = trace_of(state);
-    telling(saved::save(trace, room, &mut *out))
-}
-
-#[no_mangle]
-pub extern "C" fn ndz_load(named: Named, file: &[u8], room: &mut [i64]) -> Reply
-    ensures { λ r. ⌜ (r, now (room .exit)) ≡ loadReply named (now (file .entry)) (now (room .entry)) ⌝ }
-{
-    let wanted = opening_of(named);
-    replying(none(), loaded::load(wanted, file, &mut *room))
 }

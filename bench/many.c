@@ -228,7 +228,7 @@ int main(int argc, char **argv)
         fail("the numbers that were named");
     plain_checks = 1;
     in_order(count);
-    parts(count / 100);
+    parts(count / 100 < 20000 && count > 20000 ? 20000 : count / 100);
     late(count / 50);
     return 0;
 }

@@ -13,7 +13,7 @@ const GROUPS: [(u64, Make); 11] = [
     (240, short),
     (45, without_header),
     (44, in_order_of_any_steps),
-    (42, thousands_in_one_read),
+    (56, thousands_in_one_read),
     (50, late_of_any_runs),
     (12, late_in_any_order),
     (15, long_lines::cut),
@@ -23,8 +23,8 @@ const GROUPS: [(u64, Make); 11] = [
     (5, long_lines::refused_at_the_end),
 ];
 
-/// 4,096 readings and twice as many, with one fewer and one more of each.
-pub const THOUSANDS: [usize; 6] = [4_095, 4_096, 4_097, 8_191, 8_192, 8_193];
+/// 4,096 readings and twice as many, with one fewer and one more of each, and two more.
+pub const THOUSANDS: [usize; 7] = [4_095, 4_096, 4_097, 8_191, 8_192, 8_193, 8_194];
 
 /// How many inputs there are.
 pub fn inputs() -> u64 {
@@ -183,11 +183,11 @@ fn in_order_of_any_steps(number: u64) -> Vec<u8> {
     text.into_bytes()
 }
 
-/// In order, 4,096 readings, twice as many, or one fewer or more, all within a read. Then nothing, or a line that is refused and readings behind it: a line
+/// In order, 4,096 readings, twice as many, or about so many, all within a read. Then nothing, or a line that is refused and readings behind it: a line
 /// that cannot be read, a header out of place, a reading of the other kind, one out of range, a line too long, an empty one.
 fn thousands_in_one_read(number: u64) -> Vec<u8> {
     const STEPS: [usize; 7] = [1, 4, 15, 16, 17, 64, 256];
-    const LAST: [Option<&str>; 7] = [
+    const LAST: [Option<&str>; 8] = [
         None,
         Some("5x"),
         Some("steps 4"),
@@ -195,10 +195,11 @@ fn thousands_in_one_read(number: u64) -> Vec<u8> {
         Some("2147483648"),
         Some("11111111111111111111111111111111111111111111111111111111111111111"),
         Some(""),
+        None,
     ];
     let readings = THOUSANDS[number as usize % THOUSANDS.len()];
     let turn = number as usize / THOUSANDS.len();
-    let steps = STEPS[(number as usize + turn) % STEPS.len()];
+    let steps = STEPS[(number as usize + 2 * turn) % STEPS.len()];
     let shape = [Shape::FewLevels, Shape::Noise][turn % 2];
     let mut text = format!("steps {steps}\n") + &values(shape, number as u32 + 1, readings);
     if let Some(line) = LAST[turn] {

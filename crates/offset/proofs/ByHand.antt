@@ -1,8 +1,8 @@
 -- The calls worked by hand are what the definitions say.
 use Prim.Native.Nat.{ℕ, zero, suc}
-use mathlib.Core.Path.{_≡_, refl}
+use mathlib.Core.Path.{_≡_, refl, ap, _∙_}
 use mathlib.Core.Bool.{true, _&&_}
-use mathlib.Core.List.{List, [], _∷_, map, List·Memᴰ·cases-cons, List·Memᴰ·not-nil}
+use mathlib.Core.List.{List, [], _∷_, map, List·Memᴰ·cases-cons, List·Memᴰ·eq-of-singleton, List·Memᴰ·not-nil}
 use mathlib.Core.Logic.{⊎-elim}
 use borrow.Author.Tests.{ltb-true}
 use lib.Dec.{ltb}
@@ -23,8 +23,8 @@ use Rattle.over.specs.Search.{firstOver, over, searchOutcome, sought, soughtOf,
 use Rattle.logger.specs.Replay as logger
 use Rattle.logger.specs.Replay.{frameAt, frames, framesOf, goneOn, higher, newest, replayVerdict, replayed, signedTurn, tickFrom, wrapped}
 use Rattle.offset.specs.Caller.{after, answer, answers, begun, kept, left, part, played, recount}
-use Rattle.offset.specs.Offset.{AllFit, FileMoved, FilesMoved, RecordingMoved, bytesOf, each, lates-many-too, lates-too, loads-too, lookups-too, movedFrame, nexts-many-too, nexts-too, none, opens-too, readingsOf, replays-too, rows-too, saves-too, searches-too, worsts-too}
-use Rattle.offset.specs.ByHand.{ByHand, files, filesMoved, recorded, recordedMoved}
+use Rattle.offset.specs.Offset.{AllFit, AllHigher, FileMoved, FilesMoved, RecordingMoved, bytesOf, each, lates-many-too, lates-too, loads-too, lookups-too, movedFrame, nexts-many-too, nexts-too, none, opens-too, readingsOf, replays-too, rows-too, saves-too, searches-too, worsts-too}
+use Rattle.offset.specs.ByHand.{ByHand, ends, files, filesMoved, recorded, recordedMoved}
 
 -- a list whose numbers are tested one by one
 bytes-all : (l : List ℕ) → allOf (map (λ n. ltb n 256) l) ≡ true → AllBytes l
@@ -58,6 +58,12 @@ fit-all d (x ∷ vs) e v m =
 recording-moves : (r q : List ℕ) → length q ≡ length r → framesOf q ≡ map (movedFrame (pos 1001)) (framesOf r) → allOf (map (λ v. signed v && signed (v +ℤ pos 1001)) (readingsOf r)) ≡ true → RecordingMoved (pos 1001) r q
 recording-moves r q long same fits = record { long = long; records = same; fit = fit-all (pos 1001) (readingsOf r) fits }
 
+-- a reading by each of the calls that feed one or many
+fed-ends : (d v : ℤ) → signed v ≡ true → signed (v +ℤ d) ≡ true → AllHigher d (ends v) (ends (v +ℤ d))
+fed-ends d v e f =
+    let fit : AllFit d (v ∷ []) = λ w i. let same = List·Memᴰ·eq-of-singleton i in (ap signed same ∙ e, ap (λ (x : ℤ). signed (x +ℤ d)) same ∙ f) in
+    each (nexts-too v e f) (each (lates-too 9 v e f) (each (nexts-many-too (v ∷ []) fit) (each (lates-many-too (9 ∷ []) (v ∷ []) fit) none)))
+
 pub by-hand : ByHand
 unfolding logger.after frameAt frames goneOn higher newest replayVerdict replayed signedTurn tickFrom wrapped bytesOf played recount distance larger lesser middle accept cheaper cheapest choice holding holds insert lastEnd limitOver merge mergeAt mergeOf readings runs runsAfter settle settleIn worst broken equal faultAt firstFalse firstFault follows isWhole placeOr ruled rules allOf allZero bounded clauses flat gapsGood laid ranged restZero roomy runsAllowed slot slotRanged slots sound within zeros bits bytes reading recordAt records recordsOf saved savedRecord wordAt admitted baseOf sizeGood checked counted fileVerdict found foundOf gapsKept grown isHeld late lateVerdict lookupOutcome nextVerdict traced writeVerdict wrote firstOver over searchOutcome sought soughtOf touches measured worstOutcome onward after answer answers begun kept left part fedFrom orEnd timed orCounted tallied
 by-hand =
@@ -83,6 +89,6 @@ by-hand =
       no-files = moved-empty;
       files-moved = moved-each;
       recording-raised = refl;
-      far-up = each (nexts-too (negsuc 2147483647) refl refl) (each (lates-too 9 (negsuc 2147483647) refl refl) none);
-      far-down = each (nexts-too (pos 2147483647) refl refl) (each (lates-too 9 (pos 2147483647) refl refl) none);
+      far-up = fed-ends (pos 4294967295) (negsuc 2147483647) refl refl;
+      far-down = fed-ends (negsuc 4294967294) (pos 2147483647) refl refl;
     }

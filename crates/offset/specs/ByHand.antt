@@ -140,7 +140,7 @@ toldLate x =
 
 -- ---- many readings at one call
 
--- refused before the first open; then the readings of above at one call, none at all, and one for the other kind; then a late trace: the third of four is at a tick that is held, and the fourth, which would be taken, is not looked at; behind that three readings with two ticks, which the third is without
+-- refused before the first open; then the readings of above at one call, none at all, and one for the other kind; then a late trace: the third of four is at a tick that is held, and the fourth, which would be taken, is not looked at; behind that two ticks with three readings, the third of which has no tick and is not looked at
 abbrev pub manyCalls : ℕ → ℤ → ℤ → ℤ → List Call
 manyCalls n x y z =
     nextsMany (x ∷ [])
@@ -243,6 +243,10 @@ toldReplay level least largest last =
     ∷ traced (accepted (now (gappyBase 1 2) 2 1 5))
     ∷ []
 
+-- one reading, by each of the calls that feed one or many
+abbrev pub ends : ℤ → List Call
+ends v = nexts v ∷ lates 9 v ∷ nextsMany (v ∷ []) ∷ latesMany (9 ∷ []) (v ∷ []) ∷ []
+
 pub record ByHand : Type 0 where
   pub near-ground : answers (fresh []) (calls 7 (negsuc 2) (pos 0) (pos 50)) ≡ told (negsuc 1) (negsuc 2) (pos 0) (pos 50)
   pub with-offset : answers (fresh []) (calls 9 (pos 998) (pos 1001) (pos 1051)) ≡ told (pos 999) (pos 998) (pos 1001) (pos 1051)
@@ -269,5 +273,5 @@ pub record ByHand : Type 0 where
   -- with its readings 1,001 more the first recording is the second, a rest of one byte kept
   pub recording-raised : raised (pos 1001) (recorded (1 ∷ [])) ≡ recordedMoved (1 ∷ [])
   -- and d may be as far as the range is wide, either way
-  pub far-up : AllHigher (pos 4294967295) (nexts (negsuc 2147483647) ∷ lates 9 (negsuc 2147483647) ∷ []) (nexts (pos 2147483647) ∷ lates 9 (pos 2147483647) ∷ [])
-  pub far-down : AllHigher (negsuc 4294967294) (nexts (pos 2147483647) ∷ lates 9 (pos 2147483647) ∷ []) (nexts (negsuc 2147483647) ∷ lates 9 (negsuc 2147483647) ∷ [])
+  pub far-up : AllHigher (pos 4294967295) (ends (negsuc 2147483647)) (ends (pos 2147483647))
+  pub far-down : AllHigher (negsuc 4294967294) (ends (pos 2147483647)) (ends (negsuc 2147483647))

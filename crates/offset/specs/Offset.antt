@@ -192,6 +192,12 @@ pub record Offset : Type 0 where
   pub leaves : (d : ℤ) (c e : Caller) → Alike d c e → (xs ys : List Call) → AllHigher d xs ys → Alike d (after c xs) (after e ys)
   -- and no calls are left out whose readings fit 32 bits, and fit them with d
   pub any : (d : ℤ) (xs : List Call) → AllFit d (readingsIn xs) → AllHigher d xs (map (higher d) xs)
+  -- the readings are those that are named at the calls, of a replay those of its recording, and no others
+  pub next-feeds : (v : ℤ) (xs : List Call) → readingsIn (nexts v ∷ xs) ≡ v ∷ readingsIn xs
+  pub late-feeds : (tick : ℕ) (v : ℤ) (xs : List Call) → readingsIn (lates tick v ∷ xs) ≡ v ∷ readingsIn xs
+  pub next-many-feeds : (vs : List ℤ) (xs : List Call) → readingsIn (nextsMany vs ∷ xs) ≡ vs ++ readingsIn xs
+  pub late-many-feeds : (ts : List ℕ) (vs : List ℤ) (xs : List Call) → readingsIn (latesMany ts vs ∷ xs) ≡ vs ++ readingsIn xs
+  pub replay-feeds : (size : Size) (gaps : ℕ) (r : List ℕ) (l : List ℤ) (xs : List Call) → readingsIn (replays size gaps r l ∷ xs) ≡ readingsOf r ++ readingsIn xs
   -- a search, whatever it asks: the call itself answers it of what the caller has, which stays; it feeds no reading, and no search is left out
   pub searched : (c : Caller) (first last : ℕ) (bar : ℤ) → answer c (searches first last bar) ≡ pointed (searchOutcome (c .state) (c .room) first last bar)
   pub search-leaves : (c : Caller) (first last : ℕ) (bar : ℤ) → left c (searches first last bar) ≡ c

@@ -1,4 +1,4 @@
-//! Many readings at one call: worked by hand, of every length, in stretches of about C + 16 or 510 and their multiples, over the last tick, one call
+//! Many readings at one call: worked by hand, of every length, in stretches of about 2C + 48 or 510 and their multiples, over the last tick, one call
 //! after the other among single ones, and late in ten orders, with a tick that is taken, too far or of one run too many at each place.
 
 use super::late::ORDERS;
@@ -39,7 +39,7 @@ const SIZES: [Size; 14] = [
 ];
 
 /// Lengths that are met by each size, and longer ones that take turns; every length below `IN_TURNS` takes turns too.
-const LENGTHS: [usize; 7] = [1, 31, 32, 33, 127, 128, 129];
+const LENGTHS: [usize; 10] = [1, 15, 16, 17, 31, 32, 33, 127, 128, 129];
 const LONG: [usize; 12] = [
     255, 256, 509, 510, 511, 512, 700, 900, 1_021, 1_022, 1_023, 1_024,
 ];
@@ -333,7 +333,10 @@ impl Script {
         for values in [Values::Ends, Values::Wave, Values::Ties] {
             self.values(values, READINGS);
             for size in [
+                Size::Base(1),
                 Size::Steps(1),
+                Size::Base(3),
+                Size::Steps(2),
                 Size::Steps(16),
                 Size::Base(33),
                 Size::Steps(64),

@@ -22,13 +22,14 @@ static ndz_bucket row[PLACES];
 static uint32_t ticks[LIST];
 static int32_t values[LIST];
 static size_t numbers_lent, bytes_lent;
+static size_t bytes_drawn; /* by the last picture */
 
 /* ---- the numbers of the command at hand */
 
-enum name { KIND, BASE, GAPS, USED, RUNS, READINGS, ACCEPTED, REFUSED, MERGES, LENT, PLACE, LENGTH, AT, FROM, TO, START, COUNT, LEAST, LARGEST, TICK, VALUE, FIRST, LAST, BAR, SIZE, BY, COUNTER, TICKS, VALUES, NAMES };
+enum name { KIND, BASE, GAPS, USED, RUNS, READINGS, ACCEPTED, REFUSED, MERGES, LENT, PLACE, LENGTH, AT, FROM, TO, START, COUNT, LEAST, LARGEST, TICK, VALUE, FIRST, LAST, BAR, SIZE, BY, COUNTER, TICKS, VALUES, LETTERS, NAMES };
 
 static const char *const names[NAMES] = {"kind", "base", "gaps", "used", "runs", "readings", "accepted", "refused", "merges", "numbers", "places",
-    "bytes", "at", "from", "to", "start", "count", "least", "largest", "tick", "value", "first", "last", "bar", "size", "by", "counter", "ticks", "values"};
+    "bytes", "at", "from", "to", "start", "count", "least", "largest", "tick", "value", "first", "last", "bar", "size", "by", "counter", "ticks", "values", "letters"};
 
 static uint64_t number[NAMES];
 
@@ -308,6 +309,27 @@ static void obey_save(void)
     letter('\n');
 }
 
+drawer *picture = ndz_picture;
+
+static void obey_picture(void)
+{
+    size_t from = at_most(number[FROM], FILE_BYTES), letters = at_most(number[LETTERS], FILE_BYTES - from);
+    size_t count = at_most(number[LENGTH], BYTES);
+    const uint8_t *caption = lend_const(caption_part, file + from, letters);
+    uint8_t *lent = lend(output_part, output, count);
+    ndz_drawn drawn = picture(state, lend_const_room(), numbers_lent, caption, letters, lent, count);
+    take_back(output_part, output);
+    take_back(caption_part, file + from);
+    take_back(room_part, room);
+    refused(drawn.refusal, drawn.place);
+    unsigned_number(drawn.bytes);
+    bytes_drawn = at_most(drawn.bytes, BYTES);
+    show_room();
+    show_bytes(" caption ", file + from, letters);
+    show_bytes(" output ", output, count);
+    letter('\n');
+}
+
 static void obey_row(void)
 {
     size_t places = at_most(number[PLACE], PLACES);
@@ -378,6 +400,12 @@ static void obey_show(void)
     for (size_t i = 0; i < numbers_lent; i++)
         signed_number(room[i]);
     letter('\n');
+}
+
+static void obey_print(void)
+{
+    for (size_t i = 0; i < bytes_drawn; i++)
+        letter((char)output[i]);
 }
 
 /* ---- changes to what calls are given */
@@ -489,6 +517,8 @@ static const struct {
     {"over", obey_over},
     {"open", obey_open},
     {"row", obey_row},
+    {"picture", obey_picture},
+    {"print", obey_print},
     {"state", obey_state},
     {"record", obey_record},
     {"frame", obey_frame},

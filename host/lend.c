@@ -18,10 +18,10 @@ struct part {
 };
 
 static part parts[] = {{.name = "the room"}, {.name = "the file"}, {.name = "the row"}, {.name = "the output"}, {.name = "the tally"},
-    {.name = "the ticks"}, {.name = "the values"}};
+    {.name = "the ticks"}, {.name = "the values"}, {.name = "the caption"}};
 enum { PARTS = sizeof parts / sizeof parts[0] };
 part *const room_part = &parts[0], *const file_part = &parts[1], *const row_part = &parts[2], *const output_part = &parts[3], *const tally_part = &parts[4];
-part *const ticks_part = &parts[5], *const values_part = &parts[6];
+part *const ticks_part = &parts[5], *const values_part = &parts[6], *const caption_part = &parts[7];
 
 const char *call_at_hand = "no call";
 uint64_t line_at_hand;
@@ -117,7 +117,8 @@ static void place(part *of, const void *bytes, size_t count)
     of->count = count;
     of->at = against_the_page_behind() ? WHOLE - count : 0;
     memcpy(of->writable + of->at, bytes, count);
-    memset(beside(of, &near), BESIDE_BYTE, near);
+    uint8_t *side = beside(of, &near);
+    memset(side, BESIDE_BYTE, near);
 }
 
 void *lend(part *of, const void *bytes, size_t count)

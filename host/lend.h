@@ -9,7 +9,8 @@
 typedef struct part part;
 
 /* The parts that calls are lent, at most 720,896 bytes each. */
-extern part *const room_part, *const file_part, *const row_part, *const output_part, *const tally_part, *const ticks_part, *const values_part;
+extern part *const room_part, *const file_part, *const row_part, *const output_part, *const tally_part, *const ticks_part, *const values_part,
+    *const caption_part;
 
 /* Once, before the rest. From then on a touch beside a part, or a write to a const one, ends the program by status 3 with a message. */
 void make_parts(void);

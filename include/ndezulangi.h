@@ -6,7 +6,7 @@
  *   record. After a refusal nothing that was lent has changed, but for the count of refused readings in a tally, and where
  *   many readings are handed over for those before the refused one. The conditions are tried in the order in which a
  *   call lists its refusals, and the first that holds is the one given. All this is proved of the functions themselves
- *   (crates/c_trace, c_file, c_look, c_bucket, c_lend, c_replay, c_many), for any numbers and bytes.
+ *   (crates/c_trace, c_file, c_look, c_bucket, c_lend, c_replay, c_many, c_picture), for any numbers and bytes.
  *
  * What every call needs
  *   A pointer comes with the number of its elements: `numbers` counts numbers of 64 bits, not slots and not bytes. It must
@@ -39,7 +39,7 @@ extern "C" {
 #endif
 
 #define NDZ_VERSION_MAJOR 0
-#define NDZ_VERSION_MINOR 6
+#define NDZ_VERSION_MINOR 7
 
 /* Kinds. Any other number than 0 is taken as late, and an accepted call hands it back as 1. */
 #define NDZ_IN_ORDER 0 /* the next reading takes the next tick, from 0 */
@@ -62,6 +62,8 @@ extern "C" {
 #define NDZ_SLOT 4           /* numbers of a slot */
 #define NDZ_RECORD_BYTES 16  /* bytes of a saved bucket */
 #define NDZ_FRAME_BYTES 6    /* bytes of a logger's record */
+#define NDZ_MOST_CAPTION 200 /* bytes of a picture's caption */
+#define NDZ_PICTURE_BYTES 22866 /* bytes of the longest picture there can be */
 
 /* How many numbers a trace needs: four for each of C + 1 slots in order, of C + K + 1 late; by steps C is 2B. For B, C and K
  * in their bounds a constant where they are: int64_t room[NDZ_NUMBERS_BASE(NDZ_IN_ORDER, 63, 0)]. */
@@ -82,6 +84,7 @@ extern "C" {
 #define NDZ_TAKEN 11
 #define NDZ_ABSENT 12
 #define NDZ_SHORT 13
+#define NDZ_CAPTION 15
 
 /* What a trace is opened, loaded or replayed with. `size` is B or C, as `by` says; K, the most unbroken runs of a late
  * trace, is `gaps`, which is ignored in order. A replay is late, and does not look at `kind`. */
@@ -171,6 +174,13 @@ typedef struct {
     uint64_t buckets;
 } ndz_written;
 
+/* How many bytes of a picture were written; 0 where refused. */
+typedef struct {
+    uint32_t refusal;
+    uint64_t place;
+    uint64_t bytes;
+} ndz_drawn;
+
 /* The worst error of a trace; 0 where refused. */
 typedef struct {
     uint32_t refusal;
@@ -238,6 +248,16 @@ uint32_t ndz_error(ndz_bucket bucket);
  * Refuses: NDZ_UNSOUND, NDZ_SHORT (`out` has fewer than 16 bytes for each bucket). */
 ndz_written ndz_save(ndz_state state, const int64_t *room, size_t numbers, uint8_t *out, size_t out_bytes);
 
+/* One SVG picture of the trace with a caption, as text, to the first bytes of `out`; what lies behind it stays. The caption is
+ * any bytes from 0x20 to 0x7E, NDZ_MOST_CAPTION at the most, and they are shown as typed: & < > " ' leave as XML has them, so
+ * that nothing of it is taken for markup, in a file of its own or within a page. The text depends on the buckets and the
+ * caption alone, and has no line across a missing tick. docs/PICTURE.md has it byte for byte, and how the caption is read back.
+ * No byte of 0 stands behind it: `bytes` says where it ends.
+ * Refuses: NDZ_UNSOUND, NDZ_CAPTION (the caption is too long, or one of its bytes is below 0x20 or above 0x7E), NDZ_SHORT
+ * (`out` is shorter than the picture; NDZ_PICTURE_BYTES are always enough). */
+ndz_drawn ndz_picture(ndz_state state, const int64_t *room, size_t numbers, const uint8_t *caption, size_t caption_bytes,
+                      uint8_t *out, size_t out_bytes);
+
 /* The trace of saved bytes. With the settings that it was saved with, it is the same trace; B and C = 2B are the same here,
  * whichever it was opened by.
  * Refuses: NDZ_STEPS, NDZ_GAPS, NDZ_ROOM, NDZ_LENGTH, NDZ_RECORD, NDZ_RUNS, NDZ_OVERFULL. */
@@ -283,6 +303,7 @@ static inline const char *ndz_refusal_text(uint32_t refusal)
     case NDZ_TAKEN: return "the tick already has a reading";
     case NDZ_ABSENT: return "the tick has no reading";
     case NDZ_SHORT: return "the output is too short";
+    case NDZ_CAPTION: return "the caption is longer than 200 bytes, or has a byte below 0x20 or above 0x7E";
     default: return "no refusal has this number";
     }
 }

@@ -21,10 +21,12 @@
 //! | `worst` | | the worst error |
 //! | `row` | `places` | so many buckets of the row are lent |
 //! | `save` | `bytes` | so many bytes of the output are lent |
+//! | `picture` | `from letters bytes` | so many bytes of the file are lent as the caption, from an index on, and so many bytes of the output |
 //! | `load` | `kind size gaps by` | loads the lent file with these settings, `size` and `by` as in `open` |
 //! | `replay` | `size gaps by` | opens a late trace, `size` and `by` as in `open`, and replays the lent file into it, a recording of the logger |
 //! | `level`, `error` | `start count least largest` | of that bucket |
 //! | `show` | | no call: the state at hand and every lent number |
+//! | `print` | | no call: of the output the bytes that the last picture wrote, as they are, none where it was refused |
 //! | `state` | `kind base gaps used runs readings` | makes these the state at hand |
 //! | `tally` | `accepted refused merges` | makes these the tally |
 //! | `room` | `numbers` | so many numbers of the room are lent from now on |
@@ -47,9 +49,10 @@
 //! the call was accepted, and its place; then the six fields of a state (of a refused reading those that were given, of many readings those after
 //! the accepted ones, of a refused open, load or replay zeros), behind those of a replay how many records were accepted and how many refused, behind
 //! those of many readings how many were accepted; or a lookup's level, error, least and largest, or 1 with the index and the start of the bucket that
-//! is over, three zeros where none is, or the worst error, or how many buckets were written, each 0 where refused. Then what was lent: ` room`, a
-//! checksum of the lent numbers; of a told reading ` tally` and its three counts; of a row, a save, a load or a replay ` row`, ` output` or ` file` and
-//! the checksum of what was lent. `level` and `error` write the number alone; `show` the state at hand and every lent number.
+//! is over, three zeros where none is, or the worst error, or how many buckets or bytes of a picture were written, each 0 where refused. Then what was
+//! lent: ` room`, a checksum of the lent numbers; of a told reading ` tally` and its three counts; of a row, a save, a load or a replay ` row`,
+//! ` output` or ` file` and the checksum of what was lent, of a picture ` caption` and ` output`. `level` and `error` write the number alone; `show` the
+//! state at hand and every lent number. `print` writes no line of its own but those of the picture.
 //!
 //! A checksum is sixteen hex digits. It begins with how many numbers there are; for each number, by its 64 bits, exclusive or with it, then
 //! exclusive or with itself moved 13 up, then 7 down, then 17 up, then 11,400,714,819,323,198,485 is added, all modulo 2^64. Bytes go as one number
@@ -96,11 +99,13 @@ named! { Word:
     Worst "worst",
     Row "row",
     Save "save",
+    Picture "picture",
     Load "load",
     Replay "replay",
     Level "level",
     Error "error",
     Show "show",
+    Print "print",
     State "state",
     Tally "tally",
     Room "room",
@@ -147,6 +152,7 @@ named! { Name:
     Counter "counter",
     Ticks "ticks",
     Values "values",
+    Letters "letters",
 }
 
 impl Word {

@@ -6,6 +6,7 @@ use crate::calls::{
 use crate::clauses::{self, CLAUSES};
 use crate::command::{Command, Name, Word};
 use crate::feeds::{self, Feed};
+use crate::pictures::{self, Drawing, Drawn};
 use crate::recordings;
 use crate::rule::Kind;
 use crate::searches::{Search, SORTS};
@@ -30,13 +31,14 @@ const LEFT_BY_7: &str = "replay refused 7 over numbers";
 
 #[derive(Default)]
 pub struct Counts {
-    by_answer: [[u64; LAST_CALL_REFUSAL as usize + 1]; Word::ALL.len()],
+    by_answer: [[u64; LAST_CALL_REFUSAL as usize + 1]; Word::Error as usize + 1],
     alone: [u64; CLAUSES.len()],
     heading: String,
     met: Met,
     tally: Tally,
     state: State,
     opened: Option<Size>,
+    drawn: Option<Drawn>,
 }
 
 impl Counts {
@@ -80,6 +82,7 @@ impl Counts {
             }
             Word::Lookup => self.looked_up(answer),
             Word::Over => self.searched(session, command, answer),
+            Word::Picture => self.drawn(session, command, answer),
             _ => {}
         }
         self.sized(session, command, state, number);
@@ -211,6 +214,16 @@ impl Counts {
         }
     }
 
+    fn drawn(&mut self, session: &Session, command: &Command, answer: &Answer) {
+        if let Answer::Wrote(answer) = answer {
+            let drawing = Drawing::new(session, command, *answer, self.drawn.take());
+            for (what, times) in drawing.met() {
+                *self.met.entry(what).or_default() += times;
+            }
+            self.drawn = drawing.drawn();
+        }
+    }
+
     /// Levels of negative odd sums are where rounding down is not cutting toward zero, those of positive ones where it is.
     fn sum(&mut self, what: &str, least: i64, largest: i64) {
         let sum = least + largest;
@@ -270,7 +283,7 @@ fn answer_name(word: Word, number: u32) -> String {
 }
 
 /// The refusals that each call can give.
-pub const REFUSALS: [(Word, &[u32]); 16] = [
+pub const REFUSALS: [(Word, &[u32]); 17] = [
     (Word::Open, &[1, 2, 3]),
     (Word::Next, &[4, 5, 6]),
     (Word::Late, &[4, 5, 6, 9, 11]),
@@ -283,6 +296,7 @@ pub const REFUSALS: [(Word, &[u32]); 16] = [
     (Word::Worst, &[4]),
     (Word::Row, &[4, 13]),
     (Word::Save, &[4, 13]),
+    (Word::Picture, &[4, 13, 15]),
     (Word::Load, &[1, 2, 3, 7, 8, 9, 10]),
     (Word::Replay, &[1, 2, 3, 7]),
     (Word::Level, &[]),
@@ -334,6 +348,7 @@ pub fn wanted() -> Met {
     wanted.extend(sizes::wanted());
     wanted.extend(recordings::wanted());
     wanted.extend(feeds::wanted());
+    wanted.extend(pictures::wanted());
     wanted.extend(crate::scripts::wanted_headings());
     wanted
 }

@@ -1,8 +1,9 @@
-//! The second program of Ndezulangi as a library: the rule, the calls, the logger's recordings, scripts of calls and what they meet, the listing and
-//! the sample.
+//! The second program of Ndezulangi as a library: the rule, the calls, the logger's recordings, the picture, scripts of calls and what they meet, the
+//! listing and the sample.
 
 pub mod arrivals;
 pub mod calls;
+pub mod captions;
 pub mod classes;
 pub mod clauses;
 pub mod command;
@@ -13,6 +14,8 @@ pub mod listing;
 pub mod logger;
 pub mod long_lines;
 pub mod made;
+pub mod picture;
+pub mod pictures;
 pub mod random;
 pub mod recordings;
 pub mod rule;

@@ -152,6 +152,16 @@ impl Script {
         self.give(Word::Save, &[(Name::Bytes, bytes)]);
     }
 
+    /// The caption is so many bytes of the file from an index on.
+    pub fn picture(&mut self, from: usize, letters: usize, bytes: u64) {
+        let named = [
+            (Name::From, from as u64),
+            (Name::Letters, letters as u64),
+            (Name::Bytes, bytes),
+        ];
+        self.give(Word::Picture, &named);
+    }
+
     pub fn room(&mut self, numbers: usize) {
         if self.session.lent != numbers {
             self.give(Word::Room, &[(Name::Numbers, numbers as u64)]);
@@ -217,7 +227,13 @@ impl Script {
 
     /// Makes the file what is said, by as few changes as are seen at once.
     pub fn file(&mut self, bytes: &[u8]) {
-        for (at, record) in bytes.chunks(RECORD_BYTES).enumerate() {
+        self.file_from(0, bytes);
+        self.file_length(bytes.len());
+    }
+
+    /// From a record of the file on, whatever is lent of it.
+    pub fn file_from(&mut self, first: usize, bytes: &[u8]) {
+        for (at, record) in (first..).zip(bytes.chunks(RECORD_BYTES)) {
             let from = at * RECORD_BYTES;
             let there = &self.session.file[from..from + record.len()];
             let differs: Vec<usize> = (0..record.len())
@@ -231,7 +247,6 @@ impl Script {
                 self.record(at, fields(record));
             }
         }
-        self.file_length(bytes.len());
     }
 
     /// Makes the file this recording, by changes of the records that differ.

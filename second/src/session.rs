@@ -39,6 +39,7 @@ pub enum Answer {
     Wrote(Result<u64, Refusal>),
     Number(i64),
     Shown,
+    Printed,
     Nothing,
 }
 
@@ -52,7 +53,7 @@ impl Answer {
             Answer::Over(answer) => answer.err(),
             Answer::Worst(answer) => answer.err(),
             Answer::Wrote(answer) => answer.err(),
-            Answer::Number(_) | Answer::Shown | Answer::Nothing => None,
+            Answer::Number(_) | Answer::Shown | Answer::Printed | Answer::Nothing => None,
         }
     }
 }
@@ -68,6 +69,8 @@ pub struct Session {
     pub file: Vec<u8>,
     pub row: Vec<Record>,
     pub output: Vec<u8>,
+    /// The bytes of the last picture.
+    pub drawn: usize,
     pub ticks: Vec<u32>,
     pub values: Vec<i32>,
 }
@@ -84,6 +87,7 @@ impl Session {
             file: vec![0; FILE_BYTES],
             row: vec![NO_RECORD; PLACES],
             output: vec![0; BYTES],
+            drawn: 0,
             ticks: vec![0; READINGS],
             values: vec![0; READINGS],
         }
@@ -95,6 +99,16 @@ impl Session {
 
     pub fn lent_file(&self) -> &[u8] {
         &self.file[..self.length]
+    }
+
+    /// What a picture is lent as its caption.
+    pub fn lent_caption(&self, command: &Command) -> &[u8] {
+        part(&self.file, command, Name::Letters)
+    }
+
+    /// What a save or a picture is lent of the output.
+    pub fn lent_output(&self, command: &Command) -> &[u8] {
+        &self.output[..at_most(command.number(Name::Bytes), BYTES)]
     }
 
     /// The ticks that many readings are lent.
@@ -171,9 +185,11 @@ impl Session {
                 let room = &self.room[..self.lent];
                 Answer::Wrote(calls::save(self.state, room, &mut self.output[..bytes]))
             }
+            Word::Picture => self.draw(command),
             Word::Level => Answer::Number(bucket(command).level()),
             Word::Error => Answer::Number(bucket(command).error()),
             Word::Show => Answer::Shown,
+            Word::Print => Answer::Printed,
             _ => {
                 self.prepare(command);
                 Answer::Nothing
@@ -227,6 +243,15 @@ impl Session {
             self.go_on(replayed.state);
         }
         Answer::Replayed(answer)
+    }
+
+    fn draw(&mut self, command: &Command) -> Answer {
+        let bytes = at_most(command.number(Name::Bytes), BYTES);
+        let room = &self.room[..self.lent];
+        let caption = part(&self.file, command, Name::Letters);
+        let answer = calls::picture(self.state, room, caption, &mut self.output[..bytes]);
+        self.drawn = answer.unwrap_or(0) as usize;
+        Answer::Wrote(answer)
     }
 
     fn go_on(&mut self, after: State) {
@@ -353,9 +378,9 @@ fn at_most(number: u64, most: usize) -> usize {
     number.min(most as u64) as usize
 }
 
-/// As much of a list as a command lends, from where it says.
+/// As much of a list or of the file as a command lends, from where it says.
 fn part<'a, T>(list: &'a [T], command: &Command, name: Name) -> &'a [T] {
-    let behind = &list[at_most(command.number(Name::From), READINGS)..];
+    let behind = &list[at_most(command.number(Name::From), list.len())..];
     &behind[..at_most(command.number(name), behind.len())]
 }
 

@@ -3,7 +3,7 @@
 use crate::calls::{Replayed, State, SLOT};
 use crate::command::{Command, Name, Word};
 use crate::counts::Counts;
-use crate::session::{Answer, Session, BYTES, PLACES};
+use crate::session::{Answer, Session, PLACES};
 use std::io::{self, BufRead, Write};
 
 /// So much text is gathered before it is written.
@@ -41,8 +41,10 @@ pub fn lines(script: &str) -> String {
 }
 
 fn write_line(session: &Session, command: &Command, answer: &Answer, text: &mut Vec<u8>) {
-    if matches!(answer, Answer::Nothing) {
-        return;
+    match answer {
+        Answer::Nothing => return,
+        Answer::Printed => return text.extend(&session.output[..session.drawn]),
+        _ => {}
     }
     text.extend(command.word.text().bytes());
     match answer {
@@ -102,8 +104,8 @@ fn answered(session: &Session, command: &Command, answer: &Answer, text: &mut Ve
             numbers(text, &[u64::from(hit.is_some()), index, start]);
         }
         Answer::Worst(worst) => signed(text, worst.unwrap_or(0)),
-        Answer::Wrote(buckets) => numbers(text, &[buckets.unwrap_or(0)]),
-        Answer::Number(_) | Answer::Shown | Answer::Nothing => {}
+        Answer::Wrote(written) => numbers(text, &[written.unwrap_or(0)]),
+        Answer::Number(_) | Answer::Shown | Answer::Printed | Answer::Nothing => {}
     }
 }
 
@@ -141,9 +143,10 @@ fn lent(session: &Session, command: &Command, text: &mut Vec<u8>) {
             });
             sum(text, b" row ", checksum(places * SLOT, fields));
         }
-        Word::Save => {
-            let bytes = command.number(Name::Bytes).min(BYTES as u64) as usize;
-            sum(text, b" output ", of_bytes(&session.output[..bytes]));
+        Word::Save => sum(text, b" output ", of_bytes(session.lent_output(command))),
+        Word::Picture => {
+            sum(text, b" caption ", of_bytes(session.lent_caption(command)));
+            sum(text, b" output ", of_bytes(session.lent_output(command)));
         }
         Word::Load | Word::Replay => sum(text, b" file ", of_bytes(session.lent_file())),
         _ => {}

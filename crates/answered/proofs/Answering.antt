@@ -1,7 +1,7 @@
 -- Demand 1: the chain of refusals of each call gives the first row that is due, and a refusal leaves what was lent.
 use Prim.Native.Nat.{ℕ, zero, suc, _+_, _*_, _/_, _≤_, _<_, min}
 use mathlib.Core.Path.{_≡_, refl, sym, ap, subst, _∙_}
-use mathlib.Core.Bool.{Bool, true, false, cond, false≢true, not, _&&_}
+use mathlib.Core.Bool.{Bool, true, false, cond, false≢true, not, _&&_, _||_}
 use mathlib.Core.List.{List, [], _∷_, _++_, map, List·Memᴰ, List·Memᴰ·head, List·Memᴰ·tail}
 use mathlib.Core.Option.{Option, some, none}
 use native.Mathlib.Omega.{arith}
@@ -44,9 +44,11 @@ use Rattle.logger.specs.Replay.{Course, framesOf, goneOn, lateOpening, replayOu
 use Rattle.logger.proofs.Along.{replay-keeps, replay-refused}
 use Rattle.series.specs.Series.{Call, Fed, fedFrom, lateCall, nextCall}
 use Rattle.series.proofs.Taking.{fed-ind}
+use Rattle.captions.specs.Caption.{allPrintable, captionGood, captionMost, printable}
+use Rattle.drawing.specs.Call.{drawnIn, pictureVerdict}
 use Rattle.storage.proofs.Filing.{load-accepts, load-leaves, loads-needed}
 use Rattle.rule.proofs.Whole.{by-test}
-use Rattle.answered.specs.Answered.{Answered, Demand1, Lawful, Row, baseNamed, fileRows, firstOf, lateRows, lookupRows, mostSteps, namedBy, nextRows, openRows, outside, recordingRows, refusing, said, sizeOutside, slotsNeeded, saidFound, saidMeasured, saidSought, saidWritten, searchRows, worstRows, writeRows}
+use Rattle.answered.specs.Answered.{Answered, Demand1, Lawful, Row, baseNamed, fileRows, firstOf, lateRows, lookupRows, mostSteps, namedBy, nextRows, openRows, outside, outsideByte, pictureRows, recordingRows, refusing, said, sizeOutside, slotsNeeded, saidDrawn, saidFound, saidMeasured, saidSought, saidWritten, searchRows, worstRows, writeRows}
 
 -- ---- a call's checks and the table's rows
 
@@ -116,6 +118,23 @@ room-due : (g : Opening) (l : List ℤ) → not (roomy (kept g) l) ≡ ltb (leng
 unfolding roomy
 room-due g l = not-leb (slotWidth * needed (kept g)) (length l) ∙ ap (λ (n : ℕ). ltb (length l) (4 * n)) (needed-is g)
 
+not-both : (a b : Bool) → not (a && b) ≡ not a || not b
+not-both true b = refl
+not-both false b = refl
+
+byte-due : (b : ℕ) → not (printable b) ≡ ltb b 0x20 || ltb 0x7E b
+unfolding printable
+byte-due b = not-both (leb 0x20 b) (leb b 0x7E) ∙ rw (not-leb 0x20 b, not-leb b 0x7E)
+
+bytes-due : (c : List ℕ) → not (allPrintable c) ≡ outsideByte c
+unfolding allPrintable outsideByte
+bytes-due [] = refl
+bytes-due (b ∷ c) = not-both (printable b) (allPrintable c) ∙ rw (byte-due b, bytes-due c)
+
+caption-due : (c : List ℕ) → not (captionGood c) ≡ ltb 200 (length c) || outsideByte c
+unfolding captionGood
+caption-due c = not-both (leb (length c) captionMost) (allPrintable c) ∙ rw (not-leb (length c) captionMost, bytes-due c)
+
 -- late, the limit leaves a bucket for each run
 enough : (k : Kind) (base n : ℕ) → late k ≡ true → n ≤ limitOver k base n
 unfolding late limitOver
@@ -151,6 +170,11 @@ unfolding said saidWritten wrote
 written form out (refused r) rows e = record { exactly = e; untouched = λ q f. refl }
 written form out (accepted t) rows e = record { exactly = e; untouched = λ q f. absurd (none-given q f) }
 
+pictured : (out : List ℕ) (v : Verdict (List ℕ)) (rows : List Row) → said v ≡ firstOf rows → let o = drawnIn out v in Answered (saidDrawn (o .0)) rows out (o .1)
+unfolding said saidDrawn drawnIn
+pictured out (refused r) rows e = record { exactly = e; untouched = λ q f. refl }
+pictured out (accepted p) rows e = record { exactly = e; untouched = λ q f. absurd (none-given q f) }
+
 -- ---- each call's chain
 
 admits : (g : Opening) (l : List ℤ) (v : Verdict Table) (rows : List Row) → said v ≡ firstOf rows → said (admitted g l v) ≡ firstOf (openRows g l ++ rows)
@@ -160,6 +184,10 @@ admits g l v rows e = said-checks _ v rows e ∙ rw (size-due (g .size), gaps-du
 writes : (s : State) (l : List ℤ) (places taken : ℕ) → said (writeVerdict s l taken places) ≡ firstOf (writeRows s l places taken)
 unfolding writeVerdict
 writes s l places taken = said-all _ _
+
+pictures : (s : State) (l : List ℤ) (c : List ℕ) (places : ℕ) → said (pictureVerdict s l c places) ≡ firstOf (pictureRows s l c places)
+unfolding pictureVerdict
+pictures s l c places = said-all _ _ ∙ rw (caption-due c)
 
 absent : (o : Option Bucket) → saidFound (found o) ≡ firstOf (refusing 12 (not (isHeld o)) ∷ [])
 unfolding saidFound found firstOf isHeld
@@ -373,6 +401,7 @@ demand1 = record {
   worsts = worst-said;
   rows = λ s l out. written (λ t. t) out (writeVerdict s l (s .used) (length out)) (writeRows s l (length out) (s .used)) (writes s l (length out) (s .used));
   saves = λ s l out. written saved out (writeVerdict s l (recordWidth * s .used) (length out)) (writeRows s l (length out) (recordWidth * s .used)) (writes s l (length out) (recordWidth * s .used));
+  pictures = λ s l caption out. pictured out (pictureVerdict s l caption (length out)) (pictureRows s l caption (length out)) (pictures s l caption (length out));
   loads = λ g file l. answered (kept g) l (loadVerdict g file l) (openRows g l ++ fileRows g file)
       (loading g file l);
   replays = λ size gaps recording l. gone-on (kept (lateOpening size gaps)) l (framesOf recording) (replayVerdict size gaps recording l) _ (admits (lateOpening size gaps) l _ (recordingRows recording) (said-all _ _));

@@ -1,4 +1,4 @@
--- Demand 1: every call ends with its answer, or with one refusal of document 01's table, given exactly when the table says.
+-- Demand 1: every call ends with its answer, or with one refusal of the table, given exactly when the table says.
 use Prim.Native.Nat.{ℕ, _+_, _*_, _/_, _%_, _≤_, _<_, min}
 use mathlib.Core.Path.{_≡_}
 use mathlib.Core.Bool.{Bool, true, false, cond, not, _&&_, _||_}
@@ -31,10 +31,13 @@ use Rattle.over.specs.Search.{searchOutcome}
 use Rattle.logger.specs.Replay.{replayOutcome}
 use Rattle.series.specs.Promise.{AllSigned, AllTimed}
 use Rattle.series.specs.Series.{lateMany, nextMany}
+use Rattle.drawing.specs.declared.Drawn.{Drawn}
+use Rattle.drawing.specs.Call.{pictureOutcome}
+use Rattle.drawing.specs.Picture.{picture}
 use Rattle.rule.specs.declared.Measured.{Measured}
 
--- ---- the table, call by call, in the orders of document 01
--- Document 01's numbers stand here as it writes them and not by the names that the definitions have for them, so that a wrong number there does not pass.
+-- ---- the table, call by call, in the orders of document 01, and for the picture in that of docs/PICTURE.md
+-- The numbers stand here as these write them and not by the names that the definitions have for them, so that a wrong number there does not pass.
 
 -- a row: a refusal's number and place, and whether it is due
 pub record Row : Type 0 where
@@ -137,6 +140,19 @@ writeRows s l places taken =
     ∷ refusing 13 (ltb places taken)
     ∷ []
 
+-- one of a caption's bytes is below the space or above the tilde
+unfoldable pub outsideByte : List ℕ → Bool
+outsideByte [] = false
+outsideByte (b ∷ c) = (ltb b 0x20 || ltb 0x7E b) || outsideByte c
+
+-- of the picture with a caption: 15 where the caption is longer than 200 bytes or has such a byte; the output has so many places
+abbrev pub pictureRows : State → List ℤ → List ℕ → ℕ → List Row
+pictureRows s l caption places =
+    refusing 4 (not (sound s l))
+    ∷ refusing 15 (ltb 200 (length caption) || outsideByte caption)
+    ∷ refusing 13 (ltb places (length (picture (tableOf s l) caption)))
+    ∷ []
+
 -- ---- what a call says: a refusal's number and place, or none
 
 unfoldable pub said : {A : Type 0} → Verdict A → Option (ℕ × ℕ)
@@ -159,6 +175,10 @@ saidSought Sought.Nowhere = none
 unfoldable pub saidMeasured : Measured → Option (ℕ × ℕ)
 saidMeasured (Measured.Refused r) = some (number r, place r)
 saidMeasured (Measured.Error e) = none
+
+unfoldable pub saidDrawn : Drawn → Option (ℕ × ℕ)
+saidDrawn (Drawn.Refused r) = some (number r, place r)
+saidDrawn (Drawn.Bytes n) = none
 
 -- ---- the record rules
 
@@ -187,6 +207,7 @@ pub record Demand1 : Type 0 where
   pub worsts : (s : State) (l : List ℤ) → saidMeasured (worstOutcome s l) ≡ firstOf (worstRows s l)
   pub rows : (s : State) (l : List ℤ) (out : List Bucket) → let o = rowOutcome s l out in Answered (saidWritten (o .0)) (writeRows s l (length out) (s .used)) out (o .1)
   pub saves : (s : State) (l : List ℤ) (out : List ℕ) → let o = saveOutcome s l out in Answered (saidWritten (o .0)) (writeRows s l (length out) (16 * s .used)) out (o .1)
+  pub pictures : (s : State) (l : List ℤ) (caption out : List ℕ) → let o = pictureOutcome s l caption out in Answered (saidDrawn (o .0)) (pictureRows s l caption (length out)) out (o .1)
   pub loads : (g : Opening) (file : List ℕ) (l : List ℤ) → let o = loaded g file l in Answered (said (o .0)) (openRows g l ++ fileRows g file) l (o .1)
   -- a replay opens a late trace; its records' own refusals are those of late readings, and only counted: `fed-accepted`, `fed-refused` in logger's Promise.antt
   pub replays : (size : Size) (gaps : ℕ) (recording : List ℕ) (l : List ℤ) → let o = replayOutcome size gaps recording l in

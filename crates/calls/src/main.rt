@@ -1,6 +1,6 @@
 // Obeys a short script from standard input and writes what every call answers and leaves. The language is the one that second/src/command.rs
-// describes; obeyed are the calls but for the search, the row, the replay and the readings with a tally, and of the changes state, room, set, file,
-// byte, take and reading.
+// describes; obeyed are the calls but for the search, the row, the replay, the picture and the readings with a tally, and of the changes state,
+// room, set, file, byte, take and reading.
 mod line;
 mod show;
 

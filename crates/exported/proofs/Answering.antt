@@ -7,7 +7,7 @@ use native.Mathlib.Omega.{arith}
 use lib.IntN.{ℤ}
 use lib.ListN.{length}
 use Rattle.rule.specs.declared.Refusal.{Refusal}
-use Rattle.rule.specs.declared.Refusal.the-variants.{Steps, Gaps, Room, Unsound, Kind, Tick, Length, Record, Runs, Overfull, Taken, Absent, Short, Line}
+use Rattle.rule.specs.declared.Refusal.the-variants.{Steps, Gaps, Room, Unsound, Kind, Tick, Length, Record, Runs, Overfull, Taken, Absent, Short, Line, Caption}
 use Rattle.rule.specs.declared.State.{State}
 use Rattle.rule.specs.declared.Tally.{Tally}
 use Rattle.rule.specs.declared.Found.{Found}
@@ -56,6 +56,7 @@ numbered Taken = omega arith
 numbered Absent = omega arith
 numbered Short = omega arith
 numbered Line = omega arith
+numbered Caption = omega arith
 
 replies : (back : Fields) (v : Verdict State) (rows : List Row) (before after : List ℤ) → Answered (said v) rows before after → Replies rows back before after (replying back (answer v))
 unfolding said replying answer

@@ -125,7 +125,7 @@ pub record ExportedSearch : Type 0 where
 -- ---- demands 2 and 3
 
 -- What a caller can reach from ndz_open with the settings named, each call getting the state and the room as the last one left them:
--- the caller has the state f, and the room holds l, after the accepted readings rs, newest first. Lookup, first_over, worst, row and save write neither, and a tallied reading is the reading, for state and room; what many readings at one call leave is among this too, says Many.antt.
+-- the caller has the state f, and the room holds l, after the accepted readings rs, newest first. Lookup, first_over, worst, row, save and picture write neither, and a tallied reading is the reading, for state and room; what many readings at one call leave is among this too, says Many.antt.
 pub data Called (named : Named) : List Reading → Fields → List ℤ → Type 0 where
   -- opened empty, in any room
   opens : {r : Reply} {m : List ℤ} (l : List ℤ) → openReply named l ≡ (r, m) → r .refusal ≡ 0 → Called named [] (r .state) m

@@ -2,15 +2,14 @@
 use Prim.Native.Nat.{ℕ, zero, suc, _+_, _/_, _%_, _≤_, _<_, _^_}
 use mathlib.Core.Path.{_≡_, refl, ap, _∙_}
 use mathlib.Core.Bool.{true, false}
-use mathlib.Core.List.{List, [], _∷_, _++_, append-assoc}
-use native.Mathlib.Nat.{add-zero, pow-succ'}
-use native.Mathlib.Numerals.{add-one}
+use mathlib.Core.List.{List, [], _∷_, _++_}
+use native.Mathlib.Nat.{pow-succ'}
 use native.Mathlib.Omega.{arith}
 use borrow.Author.Tests.{le-ltb, lt-ltb, ltb-false, ltb-true}
 use lib.Dec.{ltb}
 use lib.IntN.{ℤ, pos, negsuc, natAbs}
-use lib.ListN.{length, getD, set, take, drop, drop-of-length-le, length-append}
-use lib.Seq.{drop-cons, length-sets, sets, sets-eq}
+use lib.ListN.{length, length-append}
+use lib.Seq.{length-sets}
 use lib.Signed.{ltZ}
 use mir.Syntax.{w32}
 use mir.Val.{SFits}
@@ -22,32 +21,12 @@ use Rattle.rule.proofs.Stores.{sets-append}
 use Rattle.rule.proofs.Whole.{by-test}
 use Rattle.rule.proofs.Whole.{whole as wholes}
 use Rattle.notation.specs.Signs.{minus}
-use Rattle.notation.specs.Printing.{Printed, decimal, decimalIn, digit, line, lineRoom, row, whole}
-
--- a text stored byte by byte
-module _ (o : List ℕ) (at : ℕ) (s : List ℕ) where
-  pub stores-start : sets o (at + 0) (drop 0 s) ≡ sets o at s
-  stores-start = rw (add-zero at)
-
-  pub stores-next : (i : ℕ) → i < length s → sets o (at + i) (drop i s) ≡ sets (set o (at + i) (getD s i 0)) (at + (i + 1)) (drop (i + 1) s)
-  stores-next i h =
-      let e : at + suc i ≡ suc (at + i) = omega arith in rw (drop-cons s i 0 h, add-one i, e)
-
-  pub stores-done : (i : ℕ) → length s ≤ i → sets o (at + i) (drop i s) ≡ o
-  stores-done i h = rw (drop-of-length-le s {i = i} h)
+use Rattle.notation.specs.Printing.{Printed, decimal, decimalIn, digit, line, lineRoom, refused, row, total, whole}
 
 module _ {o p q : List ℕ} {at m r : ℕ} where
   pub then : {a b : List ℕ} → Printed o at a m p → Printed p m b r q → Printed o at (a ++ b) r q
   then {a} {b} x y =
       record { next = rw (length-append a b) (omega arith); bytes = rw (y .bytes, x .bytes, x .next) (sets-append o at a b); inside = omega (arith, y .inside, ap length (x .bytes), length-sets o at a) }
-
--- one byte
-pub stored : (o : List ℕ) (at b r : ℕ) → r ≡ at + 1 → at < length o → Printed o at (b ∷ []) r (set o at b)
-stored o at b r e h = record { next = e; bytes = refl; inside = omega arith }
-
--- where there is room, the bytes before and behind the text stay
-pub placed : {o q : List ℕ} {at r : ℕ} {t : List ℕ} → at + length t ≤ length o → Printed o at t r q → q ≡ take at o ++ (t ++ drop (at + length t) o)
-placed {o} {at = at} {t = t} h x = x .bytes ∙ sets-eq t o at h ∙ append-assoc (take at o) t (drop (at + length t) o)
 
 -- ---- digits
 
@@ -100,10 +79,6 @@ whole-short (negsuc n) h = omega (arith, short 9 (suc n) (omega arith))
 pub room-left : {o q t : List ℕ} {at r : ℕ} (k room : ℕ) → length t ≤ k → at + (k + room) ≤ length o → Printed o at t r q → r + room ≤ length q
 room-left {o} {t = t} {at = at} k room h g x = omega (arith, ap length (x .bytes), length-sets o at t)
 
--- a field and the byte behind it
-pub field-room : (f : List ℕ) (e : ℕ) {o q : List ℕ} {at r : ℕ} (k room : ℕ) → length f ≤ k → at + (suc k + room) ≤ length o → Printed o at (f ++ (e ∷ [])) r q → r + room ≤ length q
-field-room f e k room h g x = room-left (suc k) room (omega (arith, length-append f (e ∷ []))) g x
-
 -- ---- a line of the listing has room
 
 pub row-short : (b : Bucket) → b .start < word → b .count < word → SFits w32 (b .least) → SFits w32 (b .largest) → length (row b) ≤ lineRoom
@@ -118,3 +93,12 @@ row-short b start count least largest =
       whole-short (b .largest) largest,
       whole-short (level b) (middle-fits least largest),
     ))
+
+pub total-short : (readings buckets worst : ℕ) → readings < 2 ^ 64 → buckets < 2 ^ 64 → worst < word → length (total readings buckets worst) ≤ lineRoom
+unfolding total line
+total-short readings buckets worst r b w =
+    simp length-append (omega (arith, short 19 readings (omega arith), short 19 buckets (omega arith), short 9 worst (omega arith)))
+
+pub refused-short : (l n : ℕ) → l < 2 ^ 64 → n < word → length (refused l n) ≤ lineRoom
+unfolding refused line
+refused-short l n h g = simp length-append (omega (arith, short 19 l (omega arith), short 9 n (omega arith)))

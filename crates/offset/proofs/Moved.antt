@@ -30,11 +30,11 @@ module _ (d : ℤ) where
   pub distance-moved : (a b : ℤ) → distance (a +ℤ d) (b +ℤ d) ≡ distance a b
   distance-moved a b = omega (whole, distance-is (a +ℤ d) (b +ℤ d), distance-is a b, sum a d, sum b d)
 
-  lesser-moved : (a b : ℤ) → lesser (a +ℤ d) (b +ℤ d) ≡ lesser a b +ℤ d
+  pub lesser-moved : (a b : ℤ) → lesser (a +ℤ d) (b +ℤ d) ≡ lesser a b +ℤ d
   unfolding lesser
   lesser-moved a b = rw (order-moved a b) (by-test (leZ a b) (λ h. rw h) (λ h. rw h))
 
-  larger-moved : (a b : ℤ) → larger (a +ℤ d) (b +ℤ d) ≡ larger a b +ℤ d
+  pub larger-moved : (a b : ℤ) → larger (a +ℤ d) (b +ℤ d) ≡ larger a b +ℤ d
   unfolding larger
   larger-moved a b = rw (order-moved a b) (by-test (leZ a b) (λ h. rw h) (λ h. rw h))
 

@@ -1,4 +1,4 @@
--- A caller who makes any calls in turn, each getting what the last one left: what each answers, and what the caller has then.
+-- A caller who makes any calls in turn, each getting what the last one left: what each answers, and what the caller has then. A picture leaves that as it is: crates/pictures tells of a caller who draws between these calls.
 use Prim.Native.Nat.{ℕ, _*_}
 use mathlib.Core.List.{List, [], _∷_}
 use mathlib.Core.Option.{Option}

@@ -1,48 +1,20 @@
 // The lines of the listing as bytes, printed from a place on, by the definitions of `notation`.
-ghost use mathlib.Core.Path.{_≡_};
-ghost use mathlib.Core.List.{[], _∷_, _++_};
-ghost use Prim.Native.Nat.{_+_, _≤_, _<_};
+ghost use mathlib.Core.List.{[], _++_};
+ghost use Prim.Native.Nat.{_+_, _≤_, _<_, _^_};
 ghost use lib.ListN.{length};
-ghost use Rattle.notation.specs.Printing.{Printed, decimal, lineRoom, refused, row, total, whole};
+ghost use Rattle.notation.specs.Printing.{Printed, decimal, lineRoom, refused, row, total};
+ghost use Rattle.output.specs.Output.{Put, filled};
+use output::put_decimal;
+use output::put_text;
 use rule::Bucket;
 
-fn put_bytes(out: &mut [u8], at: usize, s: &[u8]) -> usize
-    requires { ⌜ at + length (now s) ≤ length (now out) ⌝ }
-    ensures { λ r. ⌜ Printed (now (out .entry)) at (now (s .entry)) r (now (out .exit)) ⌝ }
+// A text, and a number behind it that may need all of 64 bits.
+fn put_count(out: &mut [u8], at: usize, text: &[u8], count: usize) -> usize
+    requires { ⌜ at + length (filled (now text) [] ++ decimal count) < 2 ^ 64 ⌝ }
+    ensures { λ r. ⌜ Put (now (out .entry)) at (filled (now (text .entry)) [] ++ decimal count) r (now (out .exit)) ⌝ }
 {
-    let mut i = 0;
-    while i < s.len() {
-        out[at + i] = s[i];
-        i += 1;
-    }
-    at + i
-}
-
-// The digits, and the byte behind them: the last digit stands so behind the digits of a tenth.
-fn put_number(out: &mut [u8], at: usize, n: usize, end: u8) -> usize
-    requires { ⌜ at + length (decimal n) < length (now out) ⌝ }
-    ensures { λ r. ⌜ Printed (now (out .entry)) at (decimal n ++ (end ∷ [])) r (now (out .exit)) ⌝ }
-{
-    if n < 10 {
-        out[at] = b'0' + n as u8;
-        out[at + 1] = end;
-        return at + 2;
-    }
-    let next = put_number(out, at, n / 10, b'0' + (n % 10) as u8);
-    out[next] = end;
-    next + 1
-}
-
-fn put_whole(out: &mut [u8], at: usize, z: i32, end: u8) -> usize
-    requires { ⌜ at + length (whole z) < length (now out) ⌝ }
-    ensures { λ r. ⌜ Printed (now (out .entry)) at (whole z ++ (end ∷ [])) r (now (out .exit)) ⌝ }
-{
-    if z < 0 {
-        out[at] = b'-';
-        put_number(out, at + 1, (-(z as i64)) as usize, end)
-    } else {
-        put_number(out, at, z as usize, end)
-    }
+    let next = put_text(out, at, text, &[0; 0]);
+    put_decimal(out, next, count)
 }
 
 // The row of a bucket.
@@ -50,11 +22,18 @@ pub fn put_row(out: &mut [u8], at: usize, b: Bucket) -> usize
     requires { ⌜ at + lineRoom ≤ length (now out) ⌝ }
     ensures { λ r. ⌜ Printed (now (out .entry)) at (row b) r (now (out .exit)) ⌝ }
 {
-    let count = put_number(out, at, b.start as usize, b' ');
-    let least = put_number(out, count, b.count as usize, b' ');
-    let largest = put_whole(out, least, b.least, b' ');
-    let level = put_whole(out, largest, b.largest, b' ');
-    put_whole(out, level, bucket::level(b), b'\n')
+    put_text(
+        out,
+        at,
+        b"% % % % %\n",
+        &[
+            b.start as i64,
+            b.count as i64,
+            b.least as i64,
+            b.largest as i64,
+            bucket::level(b) as i64,
+        ],
+    )
 }
 
 // The last line.
@@ -62,10 +41,9 @@ pub fn put_total(out: &mut [u8], at: usize, readings: usize, buckets: usize, wor
     requires { ⌜ at + lineRoom ≤ length (now out) ⌝ }
     ensures { λ r. ⌜ Printed (now (out .entry)) at (total readings buckets worst) r (now (out .exit)) ⌝ }
 {
-    let first = put_bytes(out, at, b"total ");
-    let second = put_number(out, first, readings, b' ');
-    let third = put_number(out, second, buckets, b' ');
-    put_number(out, third, worst as usize, b'\n')
+    let second = put_count(out, at, b"total ", readings);
+    let third = put_count(out, second, b" ", buckets);
+    put_text(out, third, b" %\n", &[worst as i64])
 }
 
 // The line of a refusal: the refused line, from 1, and the refusal's number.
@@ -73,7 +51,6 @@ pub fn put_refused(out: &mut [u8], at: usize, line: usize, number: u32) -> usize
     requires { ⌜ at + lineRoom ≤ length (now out) ⌝ }
     ensures { λ r. ⌜ Printed (now (out .entry)) at (refused line number) r (now (out .exit)) ⌝ }
 {
-    let first = put_bytes(out, at, b"refused ");
-    let second = put_number(out, first, line, b' ');
-    put_number(out, second, number as usize, b'\n')
+    let second = put_count(out, at, b"refused ", line);
+    put_text(out, second, b" %\n", &[number as i64])
 }

@@ -22,6 +22,7 @@ pub fn number(refusal: Refusal) -> u32
         Refusal::Absent => 12,
         Refusal::Short => 13,
         Refusal::Line => 14,
+        Refusal::Caption => 15,
     }
 }
 

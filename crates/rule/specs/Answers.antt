@@ -1,7 +1,7 @@
--- Document 01's number and place for each refusal.
+-- The number and the place of each refusal.
 use Prim.Native.Nat.{ℕ}
 use Rattle.rule.specs.declared.Refusal.{Refusal}
-use Rattle.rule.specs.declared.Refusal.the-variants.{Steps, Gaps, Room, Unsound, Kind, Tick, Length, Record, Runs, Overfull, Taken, Absent, Short, Line}
+use Rattle.rule.specs.declared.Refusal.the-variants.{Steps, Gaps, Room, Unsound, Kind, Tick, Length, Record, Runs, Overfull, Taken, Absent, Short, Line, Caption}
 
 abbrev pub number : Refusal → ℕ
 number Steps = 1
@@ -18,6 +18,7 @@ number Taken = 11
 number Absent = 12
 number Short = 13
 number Line = 14
+number Caption = 15
 
 -- 0 but for the index of a record that breaks a rule
 abbrev pub place : Refusal → ℕ
@@ -35,3 +36,4 @@ place Taken = 0
 place Absent = 0
 place Short = 0
 place Line = 0
+place Caption = 0

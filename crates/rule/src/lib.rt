@@ -56,7 +56,7 @@ pub struct State {
     pub readings: usize,
 }
 
-// Document 01's refusals, in the order of their numbers. Only a record's has a place other than 0.
+// The refusals, in the order of their numbers. Only a record's has a place other than 0.
 pub enum Refusal {
     Steps,
     Gaps,
@@ -72,6 +72,7 @@ pub enum Refusal {
     Absent,
     Short,
     Line,
+    Caption,
 }
 
 // What lookup answers: the holding bucket's level, error, least and largest.

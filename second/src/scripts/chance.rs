@@ -1,13 +1,14 @@
-//! Calls by chance from a seed: traces of both kinds, with states, rooms and files changed in one place, and settings, rooms and outputs that fit or
-//! do not; now and then a recording takes the trace's place.
+//! Calls by chance from a seed: traces of both kinds, with states, rooms and files changed in one place, and settings, rooms, captions and outputs that
+//! fit or do not; now and then a recording takes the trace's place.
 
 use crate::calls::{self, Size, MOST_BASE, MOST_GAPS, MOST_STEPS, RECORD_BYTES, SLOT};
 use crate::command::{Name, Word};
 use crate::logger::{Frame, FRAME_BYTES};
 use crate::made;
+use crate::picture;
 use crate::rule::{self, Bucket, Kind, TICKS};
 use crate::script::Script;
-use crate::session::{NUMBERS, PLACES};
+use crate::session::{FILE_RECORDS, NUMBERS, PLACES};
 
 const FIELDS: [Name; 6] = [
     Name::Kind,
@@ -20,6 +21,8 @@ const FIELDS: [Name; 6] = [
 
 /// The last record of the file, by way of which two are swapped.
 const SPARE_RECORD: usize = PLACES - 1;
+/// The record of the file from which on captions stand, above all that is loaded.
+const CAPTIONS: usize = FILE_RECORDS - 100;
 
 /// A script of so many calls.
 pub fn of_seed(seed: u64, calls: u64) -> Script {
@@ -129,7 +132,7 @@ impl Script {
     }
 
     fn act(&mut self) {
-        match self.random.below(23) {
+        match self.random.below(24) {
             0..=6 => self.reading(),
             7 => self.refused_reading(),
             8 => self.about_lookup(),
@@ -141,6 +144,7 @@ impl Script {
             19 => self.worst(),
             20 => self.any_bucket(),
             21 => self.about_over(),
+            22 => self.any_picture(),
             _ if self.chance(8) => self.last_ticks(),
             _ if self.chance(3) => self.any_replay(),
             _ => self.about_lookup(),
@@ -278,12 +282,13 @@ impl Script {
 
     /// Any call that asks whether the trace is sound.
     fn call(&mut self) {
-        match self.random.below(8) {
+        match self.random.below(9) {
             0 => self.about_lookup(),
             1 => self.any_row(),
             2 => self.any_save(),
             3 => self.worst(),
             4 => self.about_over(),
+            5 => self.any_picture(),
             _ => self.reading(),
         }
     }
@@ -334,6 +339,32 @@ impl Script {
     fn any_save(&mut self) {
         let bytes = self.output(self.used() * RECORD_BYTES, 21);
         self.save(bytes);
+    }
+
+    /// With a caption, or with bytes that are none: a bad one among them, one too many, or whatever the file begins with.
+    fn any_picture(&mut self) {
+        let mut caption = self.any_caption();
+        match self.random.below(6) {
+            0 if !caption.is_empty() => {
+                let at = self.random.below(caption.len() as u64) as usize;
+                caption[at] = self
+                    .random
+                    .choice(&[0, 9, 10, 0x1F, 0x7F, 0x80, 0xA0, 0xFF]);
+            }
+            1 => caption.resize(picture::MOST_CAPTION + 1, b'-'),
+            2 => {
+                let bytes = self.output(600, 700);
+                return self.picture(0, caption.len(), bytes);
+            }
+            _ => {}
+        }
+        self.file_from(CAPTIONS, &caption);
+        let table = match self.session.is_unsound() {
+            true => Vec::new(),
+            false => self.session.buckets(),
+        };
+        let bytes = self.output(picture::text(&table, &caption).len(), 30);
+        self.picture(CAPTIONS * RECORD_BYTES, caption.len(), bytes);
     }
 
     /// The length of an output: exact, longer or short; seldom more than there is.

@@ -9,6 +9,7 @@ pub mod late;
 pub mod long;
 pub mod many;
 pub mod next;
+pub mod picture;
 pub mod replay;
 pub mod search;
 pub mod sessions;
@@ -20,9 +21,9 @@ use crate::arrivals::ARRIVALS;
 use crate::script::Script;
 
 /// The scripts that are one and the same each time; besides them there is one by chance for each seed.
-pub const NAMES: [&str; 14] = [
-    "arrivals", "base", "buckets", "files", "late", "long", "many", "next", "replay", "search",
-    "sessions", "settings", "short", "unsound",
+pub const NAMES: [&str; 15] = [
+    "arrivals", "base", "buckets", "files", "late", "long", "many", "next", "picture", "replay",
+    "search", "sessions", "settings", "short", "unsound",
 ];
 
 /// Nothing for another name.
@@ -36,6 +37,7 @@ pub fn of_name(name: &str) -> Option<Script> {
         "long" => long::write,
         "many" => many::write,
         "next" => next::write,
+        "picture" => picture::write,
         "replay" => replay::write,
         "search" => search::write,
         "sessions" => sessions::write,

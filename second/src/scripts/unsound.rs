@@ -4,11 +4,12 @@ use crate::calls::{self, Size, MOST_BASE, MOST_GAPS, SLOT};
 use crate::clauses::{self, CLAUSES};
 use crate::command::{Name, Word};
 use crate::made;
+use crate::picture::MOST_BYTES;
 use crate::rule::{self, Kind, TICKS};
 use crate::script::Script;
 use crate::session::NUMBERS;
 
-/// So many states and rooms for each clause, and fourteen calls of each.
+/// So many states and rooms for each clause, and fifteen calls of each.
 const OF_EACH: usize = 60;
 const TRIES: usize = 10_000;
 
@@ -136,6 +137,7 @@ impl Script {
         self.worst();
         self.row(used);
         self.save(16 * used);
+        self.picture(0, 0, MOST_BYTES as u64);
     }
 
     /// Tables with one thing wrong and every other condition met, and some that are sound.

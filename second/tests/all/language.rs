@@ -1,6 +1,8 @@
 //! The language of scripts is read and written as described, and so are the lines that calls write and the shapes of readings.
 
 use second::command::{Command, Name, Word};
+use second::picture;
+use second::rule::Bucket;
 use second::shapes::{self, Shape};
 use second::told;
 
@@ -163,6 +165,58 @@ fn rows_and_saves_are_told_with_what_they_are_lent() {
             ),
         ]
     );
+}
+
+#[test]
+fn pictures_are_told_whole_and_printed() {
+    let room = checksum(&H2_ROOM);
+    let bucket = |slot: &[i64]| Bucket {
+        start: slot[0] as u64,
+        count: slot[1] as u64,
+        least: slot[2],
+        largest: slot[3],
+    };
+    let table: Vec<Bucket> = H2_ROOM[..8].chunks(4).map(bucket).collect();
+    let text = picture::text(&table, b"<&");
+    let bytes = text.len();
+    let told = told_after_h2(&[
+        "picture bytes=9",
+        "print",
+        "byte at=3 value=60",
+        "byte at=4 value=38",
+        &format!("blank bytes={} value=165", bytes + 2),
+        &format!("picture from=3 letters=2 bytes={}", bytes + 1),
+        "print",
+        "print",
+        // The whole file, and what is left of it from an index on.
+        "picture letters=18446744073709551615 bytes=18446744073709551615",
+        "print",
+        "picture from=655360 letters=7",
+        "picture from=655361 letters=7",
+        "state readings=9",
+        "picture from=655359 letters=7",
+    ]);
+    let of_bytes = |bytes: &[u8]| {
+        let numbers: Vec<i64> = bytes.iter().copied().map(i64::from).collect();
+        checksum(&numbers)
+    };
+    let line = |answer: &str, caption: &[u8], output: &[u8]| {
+        let [caption, output] = [caption, output].map(of_bytes);
+        format!("picture {answer} room {room} caption {caption} output {output}")
+    };
+    let mut file = vec![0; 655_360];
+    file[3..5].copy_from_slice(b"<&");
+    let mut output = vec![0; 65_536];
+    output[..bytes].copy_from_slice(&text);
+    output[bytes..bytes + 2].fill(165);
+    let printed = std::str::from_utf8(&text).unwrap().lines();
+    let mut expected = vec![line("13 0 0", b"", &[0; 9])];
+    expected.push(line(&format!("0 0 {bytes}"), b"<&", &output[..bytes + 1]));
+    expected.extend(printed.clone().chain(printed).map(String::from));
+    expected.push(line("15 0 0", &file, &output));
+    expected.extend([line("13 0 0", b"", b""), line("13 0 0", b"", b"")]);
+    expected.push(line("4 0 0", &[0], b""));
+    assert_eq!(told, expected);
 }
 
 #[test]

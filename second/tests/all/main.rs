@@ -9,6 +9,7 @@ mod lines;
 mod many;
 mod offset;
 mod over;
+mod pictures;
 mod refusals;
 mod replay;
 mod round_trips;

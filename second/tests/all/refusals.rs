@@ -2,12 +2,13 @@
 
 use crate::sound::is_sound;
 use crate::support::{
-    bytes_of, loaded, random_trace, random_value, Trace, MARK, MARK_BYTE, MARK_RECORD,
+    bucket, bytes_of, loaded, random_trace, random_value, Trace, MARK, MARK_BYTE, MARK_RECORD,
 };
 use second::calls::Size::{Base, Steps};
 use second::calls::{self, *};
+use second::picture;
 use second::random::Random;
-use second::rule::{Kind, TICKS};
+use second::rule::{Bucket, Kind, TICKS};
 
 const FULL: &[(u32, u32, i32, i32)] = &[(0, TICKS as u32, 0, 5)];
 
@@ -421,8 +422,36 @@ fn try_every_call(state: State, room: &[i64], random: &mut Random) -> bool {
     let rest = &bytes[written * RECORD_BYTES..];
     assert!(rest.iter().all(|byte| *byte == MARK_BYTE));
 
+    let caption = random.choice(&[&b"relay"[..], b"", b"a\x7F"]);
+    let exact = match sound {
+        true => picture::text(&buckets_in(state, room), caption).len(),
+        false => 600,
+    };
+    let length = exact - random.below(2) as usize;
+    let expected = if !sound {
+        Err(Refusal::of(UNSOUND))
+    } else if caption.contains(&0x7F) {
+        Err(Refusal::of(CAPTION))
+    } else if length < exact {
+        Err(Refusal::of(SHORT))
+    } else {
+        Ok(exact as u64)
+    };
+    let mut bytes = vec![MARK_BYTE; length + 3];
+    let answer = calls::picture(state, room, caption, &mut bytes[..length]);
+    assert_eq!(answer, expected);
+    let rest = &bytes[expected.map_or(0, |written| written as usize)..];
+    assert!(rest.iter().all(|byte| *byte == MARK_BYTE));
+
     settings_calls(state, room, random);
     sound
+}
+
+/// Of a sound trace.
+fn buckets_in(state: State, room: &[i64]) -> Vec<Bucket> {
+    let slots = room.chunks(SLOT).take(state.used as usize);
+    let bucket = |slot: &[i64]| bucket(slot[0] as u64, slot[1] as u64, slot[2], slot[3]);
+    slots.map(bucket).collect()
 }
 
 fn held_in(state: State, room: &[i64], tick: u32, sound: bool) -> bool {

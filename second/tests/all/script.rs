@@ -8,7 +8,7 @@ use second::counts::{self, Met, REFUSALS};
 use second::scripts::{self, chance};
 use second::searches::SORTS;
 use second::session::Session;
-use second::{sizes, told};
+use second::{pictures, sizes, told};
 
 const CALLS: u64 = 20_000;
 
@@ -433,6 +433,124 @@ fn recordings_are_counted_as_what_they_are() {
     for (gaps, counters, sorts) in recordings {
         assert_eq!(recordings_of(gaps, counters), sorts, "{counters:?}");
     }
+}
+
+#[test]
+fn the_script_of_pictures_meets_every_sort() {
+    let script = scripts::of_name("picture").unwrap();
+    let met = told::obey(script.text.as_bytes(), &mut std::io::sink())
+        .unwrap()
+        .met();
+    // 95 bytes alone, their 950 pairs less those of two signs that count twice, and 161 bad bytes at four places are among them.
+    assert!(pictures::wanted().len() > 95 + 925 + 644);
+    for (sort, times) in pictures::wanted() {
+        let there = met.get(&sort).copied().unwrap_or(0);
+        assert!(there >= times, "{sort}: {there} of {times}");
+    }
+}
+
+/// What one picture of the late table (5, 3, -4 to 1), (8, 2, 5 to 5), (11, 3, 0 to 1) is counted as; the file begins with these bytes.
+fn pictures_of(letters: &[u8], calls: &str) -> Vec<String> {
+    let slots = "slot start=5 count=3 least=-4 largest=1\nslot at=1 start=8 count=2 least=5 largest=5\nslot at=2 start=11 count=3 least=0 largest=1";
+    let mut script = format!("room numbers=24\nopen kind=1 size=1 gaps=3\n{slots}\nstate used=3 runs=2 readings=8\nblank bytes=65536 value=165\n");
+    for (at, byte) in letters.iter().enumerate() {
+        script += &format!("byte at={at} value={byte}\n");
+    }
+    script += &format!("{calls}\n");
+    let counts = told::obey(script.as_bytes(), &mut std::io::sink()).unwrap();
+    let sort = |name: &String| name.strip_prefix("picture: ").map(String::from);
+    let sorts = counts.met().keys().filter_map(sort).collect::<Vec<_>>();
+    let is_sort = |sort: &String| sort != "bytes written";
+    sorts.into_iter().filter(is_sort).collect()
+}
+
+#[test]
+fn pictures_are_counted_as_what_they_are() {
+    let of_table = [
+        "from a tick above 0 on",
+        "of a level of a negative odd sum",
+        "of a level that is rounded down",
+        "of a tick that is rounded down",
+        "of an odd span above 1",
+        "of missing ticks and of neighbours",
+    ];
+    let drawn = &["with marks behind it"];
+    let long = [b'-'; 201];
+    let cases: [(&[u8], &str, &[&str]); 10] = [
+        (
+            b"a",
+            "picture letters=1 bytes=9999",
+            &["caption of 1 bytes", "caption of byte 97 alone"],
+        ),
+        (
+            b"&a",
+            "picture letters=2 bytes=22866",
+            &["caption of bytes 38 97", "in an output of 22866 bytes"],
+        ),
+        (b"ab", "picture letters=2 bytes=9999", &[]),
+        (
+            b"&lt;",
+            "picture letters=4 bytes=9999",
+            &["with a typed entity"],
+        ),
+        (b"", "picture", &["refused by 13 for want of any output"]),
+        (b"", "picture bytes=50", &["refused by 13 over marks"]),
+        (
+            b"a\n",
+            "picture letters=2 bytes=50",
+            &[
+                "bad byte 10 at the end",
+                "refused by 15 over marks",
+                "refused by 15 with a short output",
+            ],
+        ),
+        (
+            b"\x7F",
+            "picture letters=1 bytes=9999",
+            &[
+                "bad byte 127 alone",
+                "refused by 15 over marks",
+                "refused by 15 with an output that is long enough",
+            ],
+        ),
+        (
+            &long,
+            "picture letters=201 bytes=9999",
+            &[
+                "caption of 201 bytes",
+                "refused by 15 over marks",
+                "refused by 15 with an output that is long enough",
+            ],
+        ),
+        (
+            b"\n",
+            "state readings=9\npicture letters=1",
+            &[
+                "refused by 4 with a bad caption",
+                "refused by 4 without an output",
+            ],
+        ),
+    ];
+    for (letters, calls, sorts) in cases {
+        let met = pictures_of(letters, calls);
+        let is_drawn = met.contains(&drawn[0].to_string());
+        let unsound = met.iter().any(|sort| sort.starts_with("refused by 4"));
+        let mut expected: Vec<&str> = sorts.to_vec();
+        expected.extend(drawn.iter().filter(|_| is_drawn));
+        expected.extend(of_table.iter().filter(|_| !unsound));
+        expected.sort();
+        assert_eq!(met, expected, "{calls}");
+        assert_eq!(
+            is_drawn,
+            sorts.iter().all(|sort| !sort.contains("refused")),
+            "{calls}"
+        );
+    }
+    // The same buckets, in order and late.
+    let one = "room numbers=24\nopen kind=0 size=1\nnext\npicture bytes=9999\nopen kind=1 size=1 gaps=1\nlate\npicture bytes=9999";
+    let sorts = pictures_of(b"", one);
+    assert!(sorts.contains(&"of the buckets before, of the other kind".to_string()));
+    assert!(!sorts.contains(&"of the buckets before, by another C".to_string()));
 }
 
 #[test]

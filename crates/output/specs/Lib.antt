@@ -1,0 +1,2 @@
+-- Texts that are printed piece by piece.
+pub mod Output

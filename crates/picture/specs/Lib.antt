@@ -1,0 +1,2 @@
+-- What is asked of buckets in slots before they are drawn.
+pub mod Drawable

@@ -1,0 +1,2 @@
+-- The answer of a picture as a plain record.
+pub mod Pictured

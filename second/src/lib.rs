@@ -3,6 +3,7 @@
 
 pub mod arrivals;
 pub mod calls;
+pub mod captioned;
 pub mod captions;
 pub mod classes;
 pub mod clauses;

@@ -1,14 +1,38 @@
-//! The listing program: lines of readings in, one line a bucket and the total out.
+//! The listing program: lines of readings in, one line a bucket and the total out. And the picture program: a caption before the lines, a picture out.
 
-use crate::calls::{Refusal, Size, Trace, LINE};
-use crate::rule::{self, Kind};
+use crate::calls::{Refusal, Size, Trace, CAPTION, LINE};
+use crate::picture;
+use crate::rule::{self, Bucket, Kind};
 use std::io::{self, BufRead, Read, Write};
 
 const DEFAULT_STEPS: u64 = 32;
 const LINE_BYTES: usize = 64;
 
 /// Reads all of the input, or up to its first refused line, and answers the whole output.
-pub fn list(mut input: impl BufRead) -> io::Result<Vec<u8>> {
+pub fn list(input: impl BufRead) -> io::Result<Vec<u8>> {
+    shown(input, listed)
+}
+
+/// The same with a caption as the first line, which is not counted.
+pub fn draw(mut input: impl BufRead) -> io::Result<Vec<u8>> {
+    let mut caption = Vec::new();
+    // One byte more than a caption may have, and its line feed.
+    let mut first_line = input.by_ref().take(picture::MOST_CAPTION as u64 + 2);
+    first_line.read_until(b'\n', &mut caption)?;
+    if caption.last() == Some(&b'\n') {
+        caption.pop();
+    }
+    if !picture::is_caption(&caption) {
+        return Ok(refused(0, CAPTION));
+    }
+    shown(input, |table| Ok(picture::text(table, &caption)))
+}
+
+/// What is written of the buckets that the lines leave, or the first refused line.
+fn shown(
+    mut input: impl BufRead,
+    written: impl Fn(&[Bucket]) -> io::Result<Vec<u8>>,
+) -> io::Result<Vec<u8>> {
     let mut listing = Listing::new();
     let mut line = Vec::new();
     let mut line_number: u64 = 0;
@@ -17,16 +41,43 @@ pub fn list(mut input: impl BufRead) -> io::Result<Vec<u8>> {
         // One byte more than a line may have: either its line feed, or proof that it is too long.
         let mut one_line = input.by_ref().take(LINE_BYTES as u64 + 1);
         if one_line.read_until(b'\n', &mut line)? == 0 {
-            return listing.output();
+            return written(listing.trace.table());
         }
         line_number += 1;
         if line.last() == Some(&b'\n') {
             line.pop();
         }
         if let Err(refusal) = listing.take(&line) {
-            return Ok(format!("refused {line_number} {}\n", refusal.number).into_bytes());
+            return Ok(refused(line_number, refusal.number));
         }
     }
+}
+
+fn refused(line_number: u64, number: u32) -> Vec<u8> {
+    format!("refused {line_number} {number}\n").into_bytes()
+}
+
+fn listed(table: &[Bucket]) -> io::Result<Vec<u8>> {
+    let mut output = Vec::new();
+    for bucket in table {
+        writeln!(
+            output,
+            "{} {} {} {} {}",
+            bucket.start,
+            bucket.count,
+            bucket.least,
+            bucket.largest,
+            bucket.level()
+        )?;
+    }
+    writeln!(
+        output,
+        "total {} {} {}",
+        rule::readings(table),
+        table.len(),
+        rule::worst_error(table)
+    )?;
+    Ok(output)
 }
 
 enum Line {
@@ -82,30 +133,6 @@ impl Listing {
             _ => return Err(Refusal::of(LINE)),
         };
         Ok(())
-    }
-
-    fn output(&self) -> io::Result<Vec<u8>> {
-        let table = self.trace.table();
-        let mut output = Vec::new();
-        for bucket in table {
-            writeln!(
-                output,
-                "{} {} {} {} {}",
-                bucket.start,
-                bucket.count,
-                bucket.least,
-                bucket.largest,
-                bucket.level()
-            )?;
-        }
-        writeln!(
-            output,
-            "total {} {} {}",
-            rule::readings(table),
-            table.len(),
-            rule::worst_error(table)
-        )?;
-        Ok(output)
     }
 }
 

@@ -1,13 +1,13 @@
-//! What the second program is asked for by name: the listing and inputs for it, the sample, scripts of calls, and what they write and meet.
+//! What the second program is asked for by name: the listing, the picture and inputs for both, the sample, scripts of calls, and what they write and meet.
 
 use second::counts::{self, Met};
 use second::scripts::{self, chance};
-use second::{classes, lines, listing, sample, told};
+use second::{captioned, classes, lines, listing, sample, told};
 use std::fs;
 use std::io::{self, BufWriter, Read, Write};
 use std::process::ExitCode;
 
-const USAGE: &str = "second list | classes | lines N | sample [READINGS] | script NAME | script SEED CALLS | obey [COUNTS] | sum COUNTS.. | enough COUNTS..";
+const USAGE: &str = "second list | draw | classes | lines N | captioned FOLDER | sample [READINGS] | script NAME | script SEED CALLS | obey [COUNTS] | sum COUNTS.. | enough COUNTS..";
 
 fn main() -> ExitCode {
     let arguments: Vec<String> = std::env::args().skip(1).collect();
@@ -38,6 +38,14 @@ fn answer(words: &[&str], out: &mut impl Write) -> io::Result<bool> {
             }
         }
         ["list"] => out.write_all(&listing::list(io::stdin().lock())?)?,
+        ["draw"] => out.write_all(&listing::draw(io::stdin().lock())?)?,
+        ["captioned", folder] => {
+            for (number, input) in captioned::inputs().enumerate() {
+                fs::write(format!("{folder}/{number}"), &input)?;
+                let drawn = listing::draw(&input[..])?;
+                fs::write(format!("{folder}/{number}.drawn"), drawn)?;
+            }
+        }
         ["sample"] => out.write_all(sample::sample(sample::READINGS).as_bytes())?,
         ["sample", readings] => out.write_all(sample::sample(number(readings)?).as_bytes())?,
         ["script", name] => match scripts::of_name(name) {

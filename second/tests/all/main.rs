@@ -2,6 +2,7 @@
 
 mod arrivals;
 mod best_curve;
+mod captioned;
 mod files;
 mod hand;
 mod language;

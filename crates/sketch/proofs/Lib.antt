@@ -1,0 +1,3 @@
+-- What is drawn, and one outcome.
+pub mod Drawing
+pub mod OneOutcome

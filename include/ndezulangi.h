@@ -63,7 +63,7 @@ extern "C" {
 #define NDZ_RECORD_BYTES 16  /* bytes of a saved bucket */
 #define NDZ_FRAME_BYTES 6    /* bytes of a logger's record */
 #define NDZ_MOST_CAPTION 200 /* bytes of a picture's caption */
-#define NDZ_PICTURE_BYTES 22866 /* bytes of the longest picture there can be */
+#define NDZ_PICTURE_BYTES 22866 /* bytes that are enough for every picture */
 
 /* How many numbers a trace needs: four for each of C + 1 slots in order, of C + K + 1 late; by steps C is 2B. For B, C and K
  * in their bounds a constant where they are: int64_t room[NDZ_NUMBERS_BASE(NDZ_IN_ORDER, 63, 0)]. */

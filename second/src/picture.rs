@@ -5,7 +5,7 @@ use crate::rule::{neighbours, Bucket};
 /// The most bytes of a caption, and those of its first line.
 pub const MOST_CAPTION: usize = 200;
 pub const FIRST_LINE: usize = 100;
-/// The most bytes that a picture has, so that an output as long is never too short.
+/// As many bytes as are enough for every picture.
 pub const MOST_BYTES: usize = 22_866;
 
 const HEAD: &str = r#"<svg xmlns="http://www.w3.org/2000/svg" viewBox="0 0 10000 5000" font-family="monospace" font-size="160" direction="ltr">

@@ -42,14 +42,12 @@ const BYTES_WRITTEN: &str = "picture: bytes written";
 /// Where a bad byte stands.
 const PLACES: [&str; 4] = ["alone", "at the beginning", "in the middle", "at the end"];
 
-/// A sort by its name, and whether a call is of it.
+/// A sort by its name, and whether a call is of it. Those whose names begin with `refused` are of refused calls, all others of pictures that were drawn.
 type Sort = (&'static str, fn(&Drawing) -> bool);
 
 const SORTS: [Sort; 42] = [
     // The trace.
-    ("of an empty trace", |drawing| {
-        drawing.is_drawn() && drawing.table.is_empty()
-    }),
+    ("of an empty trace", |drawing| drawing.table.is_empty()),
     ("of one bucket", |drawing| drawing.table.len() == 1),
     ("of one tick", |drawing| drawing.ticks() == 1),
     ("of several buckets at one level", |drawing| {
@@ -132,28 +130,28 @@ const SORTS: [Sort; 42] = [
     }),
     ("with 200 signs", |drawing| {
         let signs = |caption: &[u8]| caption.iter().all(|byte| SIGNS.contains(byte));
-        drawing.is_drawn() && drawing.caption.len() == MOST_CAPTION && signs(drawing.caption)
+        drawing.caption.len() == MOST_CAPTION && signs(drawing.caption)
     }),
     ("with a typed entity", |drawing| {
         let entity = |entity: &[u8]| drawing.has(entity);
-        drawing.is_drawn() && (entity(b"&lt;") || entity(b"&amp;") || entity(b"&#39;"))
+        entity(b"&lt;") || entity(b"&amp;") || entity(b"&#39;")
     }),
     ("with spaces at both ends", |drawing| {
         let ends = [drawing.caption.first(), drawing.caption.last()];
-        drawing.is_drawn() && ends == [Some(&b' '); 2]
+        ends == [Some(&b' '); 2]
     }),
     // The output.
     ("in an output that it fills", |drawing| {
-        drawing.is_drawn() && drawing.behind().is_empty()
+        drawing.behind().is_empty()
     }),
     ("with one byte behind it", |drawing| {
-        drawing.is_drawn() && drawing.behind().len() == 1
+        drawing.behind().len() == 1
     }),
     ("with marks behind it", |drawing| {
-        drawing.is_drawn() && is_marked(drawing.behind())
+        is_marked(drawing.behind())
     }),
     ("in an output of 22866 bytes", |drawing| {
-        drawing.is_drawn() && drawing.output.len() == MOST_BYTES
+        drawing.output.len() == MOST_BYTES
     }),
     ("refused by 13 for one byte", |drawing| {
         drawing.refusal == Some(SHORT) && drawing.output.len() + 1 == drawing.wanted_bytes()
@@ -287,7 +285,8 @@ impl<'a> Drawing<'a> {
     }
 
     fn sorts(&self) -> Vec<String> {
-        let sorts = SORTS.iter().filter(|(_, is)| is(self));
+        let told = |name: &str| self.is_drawn() != name.starts_with("refused");
+        let sorts = SORTS.iter().filter(|(name, is)| told(name) && is(self));
         let mut met: Vec<String> = sorts.map(|(name, _)| of_sort(name)).collect();
         let length = self.caption.len();
         match (self.refusal, self.caption) {

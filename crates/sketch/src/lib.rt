@@ -10,7 +10,7 @@ ghost use Rattle.drawing.specs.Picture.{picture};
 ghost use Rattle.drawing.specs.Promise.{pictureMost};
 ghost use Rattle.sketching.specs.Heading.{Drawable};
 ghost use Rattle.sketching.specs.Sketching.{sketched};
-use captions::caption_good;
+use captioning::caption_good;
 use drawing::Drawn;
 use listing::Feeding;
 use picture::picture;

@@ -94,7 +94,7 @@ most-from-start [] x none e going = let same = ap (λ (z : Reader). passed (z .0
 most-from-start (b ∷ q) x none e going = reached-passes (b ∷ q) x e (omega arith) going .1
 
 module _ {h h′ : Heading} {c c′ : List ℕ} {f f′ : Feeding} {l l′ : List ℤ} {line line′ : List ℕ} (bytes : List ℕ) (x : Reached h c f l line) (head : _≡_ {A = Heading × List ℕ} (h′, c′) (headed h c bytes))
-  (goes : _≡_ {A = Reader} (f′, (l′, line′)) (fed (f, (l, line)) (drop (h′ .taken) bytes))) (some : 1 ≤ length bytes) (good : captionGood (take (h′ .filled) c′) ≡ true) (going : hasEnded (f′ .last) ≡ false) where
+    (goes : _≡_ {A = Reader} (f′, (l′, line′)) (fed (f, (l, line)) (drop (h′ .taken) bytes))) (some : 1 ≤ length bytes) (good : captionGood (take (h′ .filled) c′) ≡ true) (going : hasEnded (f′ .last) ≡ false) where
   abbrev i : List ℕ
   i = x .input
 
@@ -130,8 +130,8 @@ module _ {h h′ : Heading} {c c′ : List ℕ} {f f′ : Feeding} {l l′ : Lis
       let most = most-from-start (drop (h′ .taken) bytes) lines-so-far none goes going in
       let typed = going-caption i bytes b in
       let short : length (captionIn (i ++ bytes)) ≤ 200 =
-          by-test (leb 201 (length (captionIn (i ++ bytes)))) (λ g. absurd (omega (arith, few, now .keeps .long (leb-true 201 (length (captionIn (i ++ bytes))) g))))
-          (λ g. let less : length (captionIn (i ++ bytes)) < 201 = leb-false 201 (length (captionIn (i ++ bytes))) g in omega (arith, less)) in
+      by-test (leb 201 (length (captionIn (i ++ bytes)))) (λ g. absurd (omega (arith, few, now .keeps .long (leb-true 201 (length (captionIn (i ++ bytes))) g))))
+      (λ g. let less : length (captionIn (i ++ bytes)) < 201 = leb-false 201 (length (captionIn (i ++ bytes))) g in omega (arith, less)) in
       let all : length (captionIn (i ++ bytes)) ≡ length i + length (captionIn bytes) = ap length typed ∙ length-append i (captionIn bytes) in
       let whole : length (captionIn i) ≡ length i = ap length (whole-caption i b) in
       let before : h .filled ≡ length (captionIn i) = x .stands .keeps .short (omega (arith, short, all, whole)) .0 in
@@ -165,7 +165,7 @@ from-0 : (n : ℕ) → n ≡ n - 0
 from-0 n = omega arith
 
 module _ {h h′ : Heading} {c c′ : List ℕ} {f f′ : Feeding} {l l′ : List ℤ} {line line′ : List ℕ} (n : ℕ) (piece : List ℕ) (x : Reached h c f l line) (head : _≡_ {A = Heading × List ℕ} (h′, c′) (headed h c (take (n - 0) piece)))
-  (goes : _≡_ {A = Reader} (f′, (l′, line′)) (fed (f, (l, line)) (take (n - h′ .taken) (drop (h′ .taken) piece)))) where
+    (goes : _≡_ {A = Reader} (f′, (l′, line′)) (fed (f, (l, line)) (take (n - h′ .taken) (drop (h′ .taken) piece)))) where
   goes-behind : _≡_ {A = Reader} (f′, (l′, line′)) (fed (f, (l, line)) (drop (h′ .taken) (take (n - 0) piece)))
   goes-behind = goes ∙ ap (fed (f, (l, line))) (behind-part (h′ .taken) n piece ∙ ap (λ (k : ℕ). drop (h′ .taken) (take k piece)) (from-0 n))
 

@@ -2,7 +2,7 @@
 use Prim.Native.Nat.{ℕ, _+_, _<_}
 use mathlib.Core.Path.{_≡_, refl, sym, ap, _∙_, subst}
 use mathlib.Core.Bool.{true, false}
-use mathlib.Core.List.{List, [], _∷_, _++_, append-assoc, append-nil}
+use mathlib.Core.List.{List, [], _∷_, _++_, append-assoc, append-nil, List·Memᴰ, List·Memᴰ·head, List·Memᴰ·tail}
 use native.Mathlib.Omega.{arith}
 use borrow.Author.Tests.{eqb-true, leb-true, leb-false, lt-leb}
 use lib.Dec.{eqb, leb}
@@ -103,32 +103,46 @@ pub stands-drawable : {h : Heading} {c : List ℕ} {r : Reader} (input : List �
 stands-drawable {h} {c} {r} input x =
     subst (λ (z : Reader). Drawable (atEnd z .0 .last) (atEnd z .1)) (sym (x .reads)) (whole-drawable (traceIn input) (replicate outputRoom 0) (length-replicate {A = ℕ} outputRoom 0))
 
+-- ---- any caption before some lines
+
+unbroken : (c : List ℕ) → (List·Memᴰ lineFeed c → ⊥) → broken c ≡ false
+unfolding broken
+unbroken [] h = refl
+unbroken (b ∷ c) h =
+    by-test (eqb b lineFeed) (λ e. absurd (h (List·Memᴰ·head (sym (eqb-true b lineFeed e))))) (λ e. rw e (unbroken c (λ m. h (List·Memᴰ·tail m))))
+
+first-line : (c i : List ℕ) → broken c ≡ false → captionIn (c ++ (lineFeed ∷ i)) ≡ c
+unfolding captionIn
+first-line c i e = going-caption c (lineFeed ∷ i) e ∙ append-nil c
+
+behind-it : (c i : List ℕ) → broken c ≡ false → traceIn (c ++ (lineFeed ∷ i)) ≡ i
+unfolding traceIn
+behind-it c i e = going-trace c (lineFeed ∷ i) e
+
 -- ---- a good caption before some lines
 
 printable-byte : (b : ℕ) → printable b ≡ true → eqb b lineFeed ≡ false
 unfolding printable
 printable-byte b h = by-test (eqb b lineFeed) (λ e. absurd (omega (arith, eqb-true b lineFeed e, leb-true 0x20 b (and-left (leb 0x20 b) (leb b 0x7E) h)))) (λ e. e)
 
-printable-caption : (c i : List ℕ) → allPrintable c ≡ true → (captionIn (c ++ (lineFeed ∷ i)) ≡ c) × (traceIn (c ++ (lineFeed ∷ i)) ≡ i)
-unfolding allPrintable captionIn traceIn
-printable-caption [] i h = (refl, refl)
-printable-caption (b ∷ c) i h =
-    let rest = printable-caption c i (and-right (printable b) (allPrintable c) h) in
-    let e = printable-byte b (and-left (printable b) (allPrintable c) h) in
-    (rw e (ap (λ (l : List ℕ). b ∷ l) (rest .0)), rw e (rest .1))
+printable-unbroken : (c : List ℕ) → allPrintable c ≡ true → broken c ≡ false
+unfolding allPrintable broken
+printable-unbroken [] h = refl
+printable-unbroken (b ∷ c) h = rw (printable-byte b (and-left (printable b) (allPrintable c) h)) (printable-unbroken c (and-right (printable b) (allPrintable c) h))
 
 good-caption : (c i : List ℕ) → captionGood c ≡ true → drawnOf (c ++ (lineFeed ∷ i)) ≡ (let x = after i in drawn (x .last) (x .count) (x .room) c)
 unfolding captionGood drawnOf sketched
 good-caption c i h =
-    let p = printable-caption c i (and-right (leb (length c) 200) (allPrintable c) h) in
-    rw (p .0, p .1, h)
+    let e = printable-unbroken c (and-right (leb (length c) 200) (allPrintable c) h) in
+    rw (first-line c i e, behind-it c i e, h)
 
 pub sketches : Sketches
 unfolding nothing drawn drawnOf sketched output shown joined
 sketches = record {
   draws = λ c i t h e. good-caption c i h ∙ rw e;
   refuses-alike = λ c i r h e. good-caption c i h ∙ rw e;
-  no-caption = λ input h. rw h;
+  no-caption = λ c i h none. rw (first-line c i (unbroken c none), h);
+  alone = λ c none. let e = unbroken c none in rw (whole-caption c e, no-trace c e, first-line c [] e, behind-it c [] e);
   written = λ pieces. stands-written (joined pieces) (stands-pieces nothing [] pieces stands-start);
   drawable = λ pieces. stands-drawable (joined pieces) (stands-pieces nothing [] pieces stands-start);
 }

@@ -2,7 +2,7 @@
 use Prim.Native.Nat.{ℕ}
 use mathlib.Core.Path.{_≡_}
 use mathlib.Core.Bool.{true, false}
-use mathlib.Core.List.{List, _∷_, _++_}
+use mathlib.Core.List.{List, [], _∷_, _++_, List·Memᴰ}
 use Rattle.rule.specs.declared.Refusal.{Refusal}
 use Rattle.rule.specs.Room.{tableOf, zeros}
 use Rattle.trace.specs.declared.Answer.the-variants.{Accepted, Refused}
@@ -13,7 +13,7 @@ use Rattle.listing.specs.Listing.{Standing, begun, lines, output, readAll, room
 use Rattle.listing.specs.Lists.{atEnd, joined}
 use Rattle.captions.specs.Caption.{captionGood}
 use Rattle.drawing.specs.Picture.{picture}
-use Rattle.sketching.specs.Sketching.{captionIn, drawnOf}
+use Rattle.sketching.specs.Sketching.{drawnOf}
 use Rattle.sketching.specs.Heading.{Drawable, nothing, piecesFed, writtenBy}
 
 -- what stands after the lines of a trace
@@ -25,7 +25,9 @@ pub record Sketches : Type 0 where
   pub draws : (c i : List ℕ) (t : Trace) → captionGood c ≡ true → after i .last ≡ Accepted t → drawnOf (c ++ (lineFeed ∷ i)) ≡ picture (tableOf (t .state) (after i .room)) c
   pub refuses-alike : (c i : List ℕ) (r : Refusal) → captionGood c ≡ true → after i .last ≡ Refused r → drawnOf (c ++ (lineFeed ∷ i)) ≡ output i
   -- any other caption, whatever follows
-  pub no-caption : (input : List ℕ) → captionGood (captionIn input) ≡ false → drawnOf input ≡ refused 0 15
+  pub no-caption : (c i : List ℕ) → captionGood c ≡ false → (List·Memᴰ lineFeed c → ⊥) → drawnOf (c ++ (lineFeed ∷ i)) ≡ refused 0 15
+  -- an input without a line feed is a caption with nothing behind it
+  pub alone : (c : List ℕ) → (List·Memᴰ lineFeed c → ⊥) → drawnOf c ≡ drawnOf (c ++ (lineFeed ∷ []))
   -- what is written is what the definition says of the whole input
   pub written : (pieces : List (List ℕ)) → writtenBy (piecesFed nothing pieces) ≡ drawnOf (joined pieces)
   -- and it can be drawn

@@ -1,5 +1,5 @@
 // The picture program: a caption and a trace's lines from standard input, the picture to standard output, or the first refused line.
-use captions::caption_good;
+use captioning::caption_good;
 use heading::head;
 use sketch::sketch;
 use sketching::Heading;

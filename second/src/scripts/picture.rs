@@ -38,7 +38,7 @@ pub fn write(script: &mut Script) {
     script.refused_twice();
     script.heading("# pictures of tables of each sort");
     for (_, table) in tables() {
-        script.each_way(&table, 18);
+        script.each_way(&table, 27);
     }
     script.heading("# pictures of tables by chance");
     for _ in 0..BY_CHANCE {
@@ -47,7 +47,7 @@ pub fn write(script: &mut Script) {
     }
 }
 
-/// The table of docs/PICTURE.md.
+/// The table of the first example of docs/PICTURE.md.
 pub fn example() -> Vec<Bucket> {
     let bucket = |start, count, least, largest| Bucket {
         start,

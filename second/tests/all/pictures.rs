@@ -16,7 +16,7 @@ use std::sync::LazyLock;
 
 const PAGE: &str = include_str!("../../../docs/PICTURE.md");
 
-/// The page's indented lines, those that follow each other together: the caption, the scale, the line of an empty trace, the curve, the example.
+/// The page's indented lines, those that follow each other together: the caption, the scale, the line of an empty trace, the curve, the two examples.
 static BLOCKS: LazyLock<Vec<String>> = LazyLock::new(|| {
     let lines: Vec<&str> = PAGE.lines().collect();
     let indented = |line: &&str| line.starts_with("    ");
@@ -39,6 +39,22 @@ fn drawn(trace: &Trace, caption: &[u8]) -> Vec<u8> {
     let behind = bytes.split_off(length as usize);
     assert!(!behind.is_empty() && behind.iter().all(|&byte| byte == MARK_BYTE));
     bytes
+}
+
+#[test]
+fn the_second_example_of_the_page() {
+    let records = [
+        (3, 1, -4, -4),
+        (4, 2, -3, 0),
+        (6, 1, 1, 1),
+        (7, 5, 2, 5),
+        (14, 1, 1, 1),
+        (17, 3, -4, -3),
+    ];
+    let trace = loaded(Kind::Late, Steps(2), 3, &records);
+    let text = drawn(&trace, b"<b>&amp;'");
+    assert_eq!(String::from_utf8(text).unwrap(), BLOCKS[5]);
+    assert_eq!(BLOCKS.len(), 6);
 }
 
 #[test]
@@ -276,7 +292,7 @@ fn a_run_is_one_broken_line_between_the_ends_of_its_buckets() {
             assert!((start.0 as f64 - x(bucket.start)).abs() < 1.0, "{name}");
             assert!((end.0 as f64 - x(bucket.end())).abs() <= 1.0, "{name}");
             assert!(start.0 < end.0 && start.1 == end.1, "{name}");
-            assert!((100..=9_900).contains(&start.0) && end.0 <= 9_901, "{name}");
+            assert!((100..=9_900).contains(&start.0) && end.0 <= 9_900, "{name}");
             assert!((260..=4_060).contains(&start.1), "{name}");
             at_point += 2;
         }

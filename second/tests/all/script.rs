@@ -534,10 +534,9 @@ fn pictures_are_counted_as_what_they_are() {
     for (letters, calls, sorts) in cases {
         let met = pictures_of(letters, calls);
         let is_drawn = met.contains(&drawn[0].to_string());
-        let unsound = met.iter().any(|sort| sort.starts_with("refused by 4"));
         let mut expected: Vec<&str> = sorts.to_vec();
         expected.extend(drawn.iter().filter(|_| is_drawn));
-        expected.extend(of_table.iter().filter(|_| !unsound));
+        expected.extend(of_table.iter().filter(|_| is_drawn));
         expected.sort();
         assert_eq!(met, expected, "{calls}");
         assert_eq!(

@@ -1,14 +1,14 @@
--- `captions::put_caption` meets its contract: what is printed and what is left to print are the whole.
+-- `captioning::put_caption` meets its contract: what is printed and what is left to print are the whole.
 use Prim.Native.Nat.{_+_, _-_, _≤_}
 use mathlib.Core.Path.{_≡_, refl, sym, _∙_}
 use mathlib.Core.List.{[], _∷_, append-nil}
 use native.Mathlib.Omega.{arith}
 use lib.ListN.{drop, getD, length}
 use Rattle.output.proofs.Left.{Left, left-all, left-empty, left-none, left-room, left-split, left-then}
 use Rattle.captions.specs.Caption.{escaped, leaving, signs}
 use Rattle.captions.proofs.Escaping.{escaped-done, escaped-next}
-use Rattle.captions.proofs.put_caption.Statement.{statement}
-use Rattle.captions.proofs.put_caption.Tie as tie
+use Rattle.captioning.proofs.put_caption.Statement.{statement}
+use Rattle.captioning.proofs.put_caption.Tie as tie
 
 abbrev Inv-loop : tie.InvT-loop
 Inv-loop out₀ at caption next₀ done₀ out next done =

@@ -1,14 +1,14 @@
--- `captions::put_leaving` meets its contract: each return is its sign, which has no mark for a number in it.
+-- `captioning::put_leaving` meets its contract: each return is its sign, which has no mark for a number in it.
 use mathlib.Core.Path.{_≡_}
 use mathlib.Core.List.{[], _∷_}
 use native.Mathlib.Omega.{arith}
 use borrow.Author.Needs.{needs}
 use borrow.Author.Tests.{ne-eqb}
 use Rattle.output.specs.Output.{filled, sign, unused}
 use Rattle.captions.specs.Caption.{closing, leaving, opening, signs}
 use Rattle.captions.proofs.Escaping.{as-itself}
-use Rattle.captions.proofs.put_leaving.Statement.{statement}
-use Rattle.captions.proofs.put_leaving.Tie as tie
+use Rattle.captioning.proofs.put_leaving.Statement.{statement}
+use Rattle.captioning.proofs.put_leaving.Tie as tie
 
 as-typed : (c : tie.After-put-byte-arg) → leaving signs (c .before .before .before .before .before .before .before .args .b) ≡ c .before .before .before .before .before .before .before .args .b ∷ []
 as-typed c =

@@ -2,8 +2,8 @@
 use mathlib.Core.Path.{sym, ap, _∙_}
 use Rattle.rule.specs.Outcomes.{OneOutcome}
 use Rattle.rule.proofs.Determined.{both, by-result}
-use Rattle.captions.proofs.caption_good as caption-good
-use Rattle.captions.proofs.put_caption as put-caption
+use Rattle.captioning.proofs.caption_good as caption-good
+use Rattle.captioning.proofs.put_caption as put-caption
 
 pub caption-good-one : OneOutcome caption-good.ended (λ M. caption-good.clauses)
 caption-good-one M 𝓤 H A mem run κs a g r r′ l l′ = by-result 𝓤

@@ -280,7 +280,7 @@ int main(int argc, char **argv)
 {
     uint32_t count = argc > 1 ? (uint32_t)strtoul(argv[1], NULL, 10) : 2000000;
     printf("| call | library, ns | plain C, ns | ratio |\n|---|---|---|---|\n");
-    readings((ndz_settings){.kind = NDZ_IN_ORDER, .size = NDZ_DEFAULT_STEPS}, count, 1);
+    readings((ndz_settings){.kind = NDZ_IN_ORDER, .size = 32}, count, 1);
     readings(most, count, 1);
     make_full();
     for (int apart = 0; apart < 2; apart++) {
@@ -293,7 +293,7 @@ int main(int argc, char **argv)
         readings((ndz_settings){.kind = NDZ_IN_ORDER, .size = sizes[i]}, count / 10, 0);
     for (uint64_t base = 63; base <= 65; base++)
         readings((ndz_settings){.kind = NDZ_IN_ORDER, .size = base, .by = NDZ_BY_BASE}, count / 10, 0);
-    recordings((ndz_settings){.kind = NDZ_LATE, .size = NDZ_DEFAULT_STEPS, .gaps = 16}, count / 2);
+    recordings((ndz_settings){.kind = NDZ_LATE, .size = 32, .gaps = 16}, count / 2);
     files(count / 100 + 1);
     return 0;
 }

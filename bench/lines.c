@@ -1,10 +1,11 @@
-/* What the listing program does for a trace in order of 32 steps, in plain C: one reading a line, many of them taken at one call, then the steps. Errors end
- * it. */
+/* What the listing program does for a trace in order with B = 32, in plain C: one reading a line, and no line that names the steps; many readings are taken at
+ * one call. Then the steps. Errors end it. */
 #include "plain_many.h"
 #include <inttypes.h>
 #include <stdio.h>
 
-#define NUMBERS NDZ_NUMBERS(NDZ_IN_ORDER, NDZ_DEFAULT_STEPS, 0)
+#define STEPS 32
+#define NUMBERS NDZ_NUMBERS(NDZ_IN_ORDER, STEPS, 0)
 
 static char input[65536];
 static size_t have, at;
@@ -35,7 +36,7 @@ static int take(void)
 
 int main(void)
 {
-    state = plain_open((ndz_settings){.kind = NDZ_IN_ORDER, .size = NDZ_DEFAULT_STEPS}, room, NUMBERS).state;
+    state = plain_open((ndz_settings){.kind = NDZ_IN_ORDER, .size = STEPS}, room, NUMBERS).state;
     for (int byte = next_byte(); byte != EOF; byte = next_byte()) {
         int negative = byte == '-', digits = 0;
         int64_t value = 0;

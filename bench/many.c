@@ -212,7 +212,7 @@ static void late(size_t count)
     make_values(0, count);
     for (size_t i = 0; i < count; i++)
         ticks[i] = (uint32_t)((i & ~(size_t)31) + (i + 8) % 32);
-    late_row((ndz_settings){.kind = NDZ_LATE, .size = NDZ_DEFAULT_STEPS, .gaps = 16}, count);
+    late_row((ndz_settings){.kind = NDZ_LATE, .size = 32, .gaps = 16}, count);
     for (size_t i = 0; i < count; i++)
         ticks[i] = (uint32_t)(i % 256 * 65536 + i / 256);
     late_row((ndz_settings){.kind = NDZ_LATE, .size = NDZ_MOST_STEPS, .gaps = NDZ_MOST_GAPS}, count / 4);

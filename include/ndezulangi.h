@@ -39,7 +39,7 @@ extern "C" {
 #endif
 
 #define NDZ_VERSION_MAJOR 0
-#define NDZ_VERSION_MINOR 7
+#define NDZ_VERSION_MINOR 8
 
 /* Kinds. Any other number than 0 is taken as late, and an accepted call hands it back as 1. */
 #define NDZ_IN_ORDER 0 /* the next reading takes the next tick, from 0 */
@@ -52,8 +52,10 @@ extern "C" {
 #define NDZ_BY_STEPS 0 /* B, 1 to 256: at most 2B steps in order */
 #define NDZ_BY_BASE 1  /* C, 1 to 512: at most C steps in order */
 
-/* Limits. A late trace has at most C steps and one for each of its runs. */
-#define NDZ_DEFAULT_STEPS 32
+/* Limits. A late trace has at most C steps and one for each of its runs. No call opens by default: NDZ_DEFAULT_STEPS is the B
+ * of the listing program and of the picture program where no line names one. Up to version 0.7 it was 32, and a file does not
+ * say what it was saved with: who named NDZ_DEFAULT_STEPS then and kept files loads them with 32. */
+#define NDZ_DEFAULT_STEPS 64
 #define NDZ_MOST_STEPS 256
 #define NDZ_MOST_BASE 512
 #define NDZ_MOST_GAPS 256

@@ -45,13 +45,13 @@ pub fn inputs() -> impl Iterator<Item = Vec<u8>> {
     made().chain(behind_captions())
 }
 
-/// Every fifth of the listing's inputs, each behind a caption so long that the reads cut its lines at other places.
+/// Every fifth of the listing's inputs, each behind a good caption of another length, so that the reads cut its lines at other places.
 fn behind_captions() -> impl Iterator<Item = Vec<u8>> {
     (0..lines::inputs())
         .step_by(5)
         .enumerate()
         .map(|(at, number)| {
-            let caption = printable(at * 2);
+            let caption = printable(at * 2 % 201);
             [&caption[..], b"\n", &lines::input(number)].concat()
         })
 }

@@ -18,7 +18,11 @@ pub fn classes(input: &[u8]) -> io::Result<Vec<String>> {
         ["refused", line, refusal] => {
             found.push(format!("refused {refusal}"));
             found.extend(of_refused_line(input, number(line)?));
-            found.extend(of_thousands(input, number(line)?.saturating_sub(2), "and one refused"));
+            found.extend(of_thousands(
+                input,
+                number(line)?.saturating_sub(2),
+                "and one refused",
+            ));
         }
         ["total", readings, buckets, _] => {
             found.push("whole".to_string());
@@ -27,7 +31,7 @@ pub fn classes(input: &[u8]) -> io::Result<Vec<String>> {
                 &output,
                 number(readings)?,
                 number(buckets)?,
-            ));
+            )?);
             found.extend(of_thousands(input, number(readings)?, "and no more"));
             found.extend(of_cuts(input));
             found.extend(of_sums(&output)?);
@@ -82,7 +86,7 @@ fn line_bytes(bytes: &[u8]) -> usize {
     feed.unwrap_or(bytes.len())
 }
 
-fn of_headers(input: &[u8], output: &str, readings: u64, buckets: u64) -> Vec<String> {
+fn of_headers(input: &[u8], output: &str, readings: u64, buckets: u64) -> io::Result<Vec<String>> {
     let merged = readings > buckets;
     let text = String::from_utf8_lossy(input);
     let mut lines = text.lines().peekable();
@@ -90,8 +94,12 @@ fn of_headers(input: &[u8], output: &str, readings: u64, buckets: u64) -> Vec<St
         let line = lines.next_if(|line| line.starts_with(name))?;
         line[name.len()..].parse().ok()
     };
-    match (header("steps "), header("late ")) {
-        (None, None) => of_no_header(output, readings),
+    let headers = (header("steps "), header("late "));
+    if let (None, late) = headers {
+        let kind = if late.is_some() { "late" } else { "in order" };
+        return of_no_steps(input, output, kind, readings);
+    }
+    Ok(match headers {
         (Some(steps), None) if merged && BOUNDS.contains(&steps) => {
             vec![format!("merged: steps {steps}")]
         }
@@ -101,7 +109,7 @@ fn of_headers(input: &[u8], output: &str, readings: u64, buckets: u64) -> Vec<St
             vec![format!("merged: steps {steps}, late {gaps}")]
         }
         _ => Vec::new(),
-    }
+    })
 }
 
 /// So many readings in order behind a header of steps, within a read.
@@ -114,13 +122,21 @@ fn of_thousands(input: &[u8], readings: u64, then: &str) -> Vec<String> {
     found
 }
 
-fn of_no_header(output: &str, readings: u64) -> Vec<String> {
+/// What shows the default: about as many readings as it keeps, many more, and a listing that is another where half of it, or the number before or behind
+/// it, is named.
+fn of_no_steps(input: &[u8], output: &str, kind: &str, readings: u64) -> io::Result<Vec<String>> {
     let mut found = Vec::new();
-    if [64, 65, 128, 129].contains(&readings) {
-        found.push(format!("no header: {readings} readings"));
+    if [64, 65, 128, 129, 130].contains(&readings) {
+        found.push(format!("no steps, {kind}: {readings} readings"));
     }
     if readings > 150 {
-        found.push("no header: more than 150 readings".to_string());
+        found.push(format!("no steps, {kind}: more than 150 readings"));
+    }
+    for steps in [32, 63, 65] {
+        let named = [format!("steps {steps}\n").as_bytes(), input].concat();
+        if listing::list(&named[..])? != output.as_bytes() {
+            found.push(format!("no steps, {kind}: another listing by {steps}"));
+        }
     }
     // A bucket's third field is its least reading.
     let least = |row: &str| row.split(' ').nth(2).map(str::to_string);
@@ -129,9 +145,9 @@ fn of_no_header(output: &str, readings: u64) -> Vec<String> {
         .filter_map(least)
         .any(|least| least.starts_with('-'))
     {
-        found.push("no header: negative readings".to_string());
+        found.push(format!("no steps, {kind}: negative readings"));
     }
-    found
+    Ok(found)
 }
 
 /// A line for each row whose sum of least and largest is odd: a level is rounded there, below 0 and above it.

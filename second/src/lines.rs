@@ -1,5 +1,5 @@
-//! Inputs for the listing program, each made from its number: short ones of every kind of line, good and refused; traces without a header; B and K
-//! up to their bounds; and inputs longer than one read.
+//! Inputs for the listing program, each made from its number: short ones of every kind of line, good and refused; traces that name no steps, in order
+//! and late; B and K up to their bounds; and inputs longer than one read.
 
 use crate::long_lines;
 use crate::random::Random;
@@ -9,7 +9,7 @@ use std::fmt::Write as _;
 type Make = fn(u64) -> Vec<u8>;
 
 /// How many inputs each group has, and what makes one of them.
-const GROUPS: [(u64, Make); 11] = [
+const GROUPS: [(u64, Make); 12] = [
     (240, short),
     (45, without_header),
     (44, in_order_of_any_steps),
@@ -21,6 +21,7 @@ const GROUPS: [(u64, Make); 11] = [
     (8, long_lines::ending_at_a_read),
     (12, long_lines::too_long_at_a_read),
     (5, long_lines::refused_at_the_end),
+    (45, late_without_steps),
 ];
 
 /// 4,096 readings and twice as many, with one fewer and one more of each, and two more.
@@ -148,7 +149,8 @@ fn short(number: u64) -> Vec<u8> {
     text.into_bytes()
 }
 
-/// In order by default: exactly the limit of readings, one more, twice as many, and many more. The last line lacks its line feed in every second.
+/// In order by default: exactly 2B readings, one more, and many more; and as many as there were when the default was half as much. The last line lacks
+/// its line feed in every second.
 fn without_header(number: u64) -> Vec<u8> {
     const READINGS: [usize; 9] = [64, 65, 128, 129, 151, 200, 257, 1_000, 3_000];
     const FED: [(Shape, u32); 5] = [
@@ -232,6 +234,31 @@ fn late_of_any_runs(number: u64) -> Vec<u8> {
     } else {
         arrive(gaps * (length + 1) + 5);
         arrive(gaps * (length + 1) - 1);
+    }
+    text.into_bytes()
+}
+
+/// Late by default: about as many readings as without a header and, since one run adds one to the limit, one more than 2B + 1. The ticks come in order, displaced a little,
+/// every second first, from both ends, or in bursts with one tick in forty missing. The last line lacks its line feed in every second.
+fn late_without_steps(number: u64) -> Vec<u8> {
+    const READINGS: [usize; 9] = [65, 128, 129, 130, 151, 200, 257, 1_000, 3_000];
+    const FED: [(Shape, u32, u8, u64); 5] = [
+        (Shape::Square, 21, 0, 1),
+        (Shape::Noise, 22, 2, 5),
+        (Shape::FewLevels, 23, 3, 9),
+        (Shape::FullSwings, 24, 4, 3),
+        (Shape::Noise, 25, 5, 80),
+    ];
+    let readings = READINGS[number as usize % READINGS.len()];
+    let (shape, seed, order, gaps) = FED[number as usize / READINGS.len()];
+    let mut text = format!("late {gaps}\n");
+    for reading in shapes::readings(shape, seed).take(readings) {
+        let tick = reading.tick(order);
+        let missing = if gaps == 80 { tick / 39 } else { 0 };
+        writeln!(text, "{} {}", tick + missing, reading.value).expect("a string takes any text");
+    }
+    if number % 2 == 1 {
+        text.pop();
     }
     text.into_bytes()
 }

@@ -1,11 +1,13 @@
 //! The listing program: lines of readings in, one line a bucket and the total out. And the picture program: a caption before the lines, a picture out.
+//! And what is saved of such lines.
 
-use crate::calls::{Refusal, Size, Trace, CAPTION, LINE};
+use crate::calls::{self, Refusal, Size, Trace, CAPTION, LINE};
 use crate::picture;
 use crate::rule::{self, Bucket, Kind};
 use std::io::{self, BufRead, Read, Write};
 
-const DEFAULT_STEPS: u64 = 32;
+/// B where no line names it.
+pub const DEFAULT_STEPS: u64 = 64;
 const LINE_BYTES: usize = 64;
 
 /// Reads all of the input, or up to its first refused line, and answers the whole output.
@@ -13,7 +15,12 @@ pub fn list(input: impl BufRead) -> io::Result<Vec<u8>> {
     shown(input, listed)
 }
 
-/// The same with a caption as the first line, which is not counted.
+/// The saved form of the buckets that the lines leave, or the first refused line.
+pub fn save(input: impl BufRead) -> io::Result<Vec<u8>> {
+    shown(input, |table| Ok(calls::file_of(table)))
+}
+
+/// The listing with a caption as the first line, which is not counted.
 pub fn draw(mut input: impl BufRead) -> io::Result<Vec<u8>> {
     let mut caption = Vec::new();
     // One byte more than a caption may have, and its line feed.

@@ -7,7 +7,7 @@ use std::fs;
 use std::io::{self, BufWriter, Read, Write};
 use std::process::ExitCode;
 
-const USAGE: &str = "second list | draw | classes | lines N | captioned FOLDER | sample [READINGS] | script NAME | script SEED CALLS | obey [COUNTS] | sum COUNTS.. | enough COUNTS..";
+const USAGE: &str = "second list | draw | save | classes | lines N | captioned FOLDER | sample [READINGS] | script NAME | script SEED CALLS | obey [COUNTS] | sum COUNTS.. | enough COUNTS..";
 
 fn main() -> ExitCode {
     let arguments: Vec<String> = std::env::args().skip(1).collect();
@@ -39,6 +39,7 @@ fn answer(words: &[&str], out: &mut impl Write) -> io::Result<bool> {
         }
         ["list"] => out.write_all(&listing::list(io::stdin().lock())?)?,
         ["draw"] => out.write_all(&listing::draw(io::stdin().lock())?)?,
+        ["save"] => out.write_all(&listing::save(io::stdin().lock())?)?,
         ["captioned", folder] => {
             for (number, input) in captioned::inputs().enumerate() {
                 fs::write(format!("{folder}/{number}"), &input)?;
@@ -46,8 +47,8 @@ fn answer(words: &[&str], out: &mut impl Write) -> io::Result<bool> {
                 fs::write(format!("{folder}/{number}.drawn"), drawn)?;
             }
         }
-        ["sample"] => out.write_all(sample::sample(sample::READINGS).as_bytes())?,
-        ["sample", readings] => out.write_all(sample::sample(number(readings)?).as_bytes())?,
+        ["sample"] => out.write_all(sample::shipped().as_bytes())?,
+        ["sample", readings] => out.write_all(sample::readings(number(readings)?).as_bytes())?,
         ["script", name] => match scripts::of_name(name) {
             Some(script) => out.write_all(script.text.as_bytes())?,
             None => return Ok(false),

@@ -13,6 +13,8 @@ const PHASES: [(i64, i64); 6] = [
     (2_240, 12_050),
 ];
 pub const READINGS: u64 = 2_400;
+/// What is made of the shipped trace is stored, so it names its steps.
+const STEPS: u64 = 32;
 /// Readings that a switching takes.
 const RAMP: i64 = 4;
 const NOISE: i64 = 18;
@@ -21,9 +23,14 @@ const DROP: i64 = 1_500;
 const DROP_READINGS: i64 = 2;
 const DROP_LEVEL: i64 = 7_400;
 
-/// So many readings, one a line, in order, as the listing program reads them. In a longer trace each phase is longer, but
-/// switching takes as many readings as ever, and so does the drop.
-pub fn sample(readings: u64) -> String {
+/// The shipped trace.
+pub fn shipped() -> String {
+    format!("steps {STEPS}\n{}", readings(READINGS))
+}
+
+/// So many readings, one a line, in order, as the listing program reads them, and no steps named. In a longer trace each phase is longer,
+/// but switching takes as many readings as ever, and so does the drop.
+pub fn readings(readings: u64) -> String {
     let readings = readings as i64;
     let mut random = Random::new(1);
     let mut lines = String::new();

@@ -8,7 +8,7 @@ use trace::Answer;
 use trace::Trace;
 
 // B where no line names it. Nothing else has a default.
-const DEFAULT_STEPS: usize = 32;
+const DEFAULT_STEPS: usize = 64;
 
 // A trace of the default steps, with nothing read.
 pub fn begin(room: &mut [i64]) -> Feeding

@@ -189,7 +189,7 @@ shows (b ∷ bs) = byte-shows b bs (shows bs)
 
 -- ---- the whole input
 
-pub listed-whole : (input : List ℕ) → seen (atEnd (fed start input)) ≡ told (readAll (begun (zeros roomSize)) (lines input))
+pub listed-whole : (input : List ℕ) → seen (atEnd (fed start input)) ≡ told (readAll (begun defaultSteps (zeros roomSize)) (lines input))
 unfolding start begun
 listed-whole input =
     answered-shows input (shows input) _ Stage.Nothing 0 _ _ (opened-upright (inOrder defaultSteps) (zeros roomSize) Stage.Nothing 0 (omega arith)) (length-replicate {A = ℕ} lineMost 0)
@@ -232,7 +232,7 @@ upright-showable (Accepted t) l g n out up e =
 pub whole-showable : (input out : List ℕ) → length out ≡ outputRoom → let e = atEnd (fed start input) in Showable (e .0 .last) (e .1) out
 unfolding begun
 whole-showable input out e =
-    let x : Standing = begun (zeros roomSize) in
+    let x : Standing = begun defaultSteps (zeros roomSize) in
     let y : Standing = readAll x (lines input) in
     let up : Upright (y .last) (y .room) (y .stage) (y .count) = read-upright x (lines input) (opened-upright (inOrder defaultSteps) (zeros roomSize) Stage.Nothing 0 (omega arith)) in
     subst (λ (q : Seen). Showable (q .0) (q .1 .1) out) (sym (listed-whole input)) (upright-showable (y .last) (y .room) (y .stage) (y .count) out up e)
@@ -255,7 +255,8 @@ late-again b k l = opened-kept (lateWith (2 * b) k) (record { kind = Late; size 
 pub lists : Lists
 unfolding output begun obeyed
 lists = record {
-  default = λ l. refl;
+  default = λ i. refl;
+  opens-first = λ b l. refl;
   by-steps = λ s l b. refl;
   late-by-steps = λ g b k l m s e may. rw may (ap (λ (c : ℕ). answered (opened (lateWith c k) m)) (base-opened b l m s e) ∙ ap answered (late-again b k m));
   longest = refl;

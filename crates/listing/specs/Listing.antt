@@ -39,7 +39,7 @@ lines (b ∷ l) = cond (eqb b lineFeed) ([] ∷ lines l) (begins b (lines l))
 
 -- B where no line names it
 abbrev pub defaultSteps : ℕ
-defaultSteps = 32
+defaultSteps = 64
 
 abbrev pub inOrder : ℕ → Opening
 inOrder b = record { kind = InOrder; size = Steps b; gaps = 0 }
@@ -97,9 +97,9 @@ pub record Standing : Type 0 where
   pub stage : Stage
   pub count : ℕ
 
--- before the first line
-unfoldable pub begun : List ℤ → Standing
-begun l = let o = answered (opened (inOrder defaultSteps) l) in record { last = o .0; room = o .1; stage = Stage.Nothing; count = 0 }
+-- before the first line, B being b until a line names it
+unfoldable pub begun : ℕ → List ℤ → Standing
+begun b l = let o = answered (opened (inOrder b) l) in record { last = o .0; room = o .1; stage = Stage.Nothing; count = 0 }
 
 -- one line more; the first refused line ends the run
 unfoldable pub read : Standing → Answer → List ℕ → Standing
@@ -120,4 +120,4 @@ shown (Refused r) count l = refused count (number r)
 shown (Accepted t) count l = listing (tableOf (t .state) l)
 
 unfoldable pub output : List ℕ → List ℕ
-output input = let x = readAll (begun (zeros roomSize)) (lines input) in shown (x .last) (x .count) (x .room)
+output input = let x = readAll (begun defaultSteps (zeros roomSize)) (lines input) in shown (x .last) (x .count) (x .room)

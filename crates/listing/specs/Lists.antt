@@ -15,7 +15,7 @@ use Rattle.notation.specs.declared.Line.{Line}
 use Rattle.notation.specs.Reading.{lineMost}
 use Rattle.listing.specs.declared.Feeding.{Feeding}
 use Rattle.listing.specs.declared.Stage.{Stage}
-use Rattle.listing.specs.Listing.{begun, lateMay, obeyed, output, roomSize, shown}
+use Rattle.listing.specs.Listing.{begun, lateMay, lines, obeyed, output, readAll, roomSize, shown}
 use Rattle.listing.specs.Feeding.{Reader, Showable, fed, fresh, outputRoom, restFed}
 
 -- before the first byte, as the program lends room and line
@@ -40,12 +40,14 @@ abbrev pub written : Reader → List ℕ
 written x = let e = atEnd x in shown (e .0 .last) (e .0 .lines) (e .1)
 
 pub record Lists : Type 0 where
-  -- without a header B is 32, and a line has at most 64 bytes
-  pub default : (l : List ℤ) → let o = answered (opened (record { kind = InOrder; size = Steps 32; gaps = 0 }) l) in begun l ≡ record { last = o .0; room = o .1; stage = Stage.Nothing; count = 0 }
-  -- `steps B` opens with that B; and `late K` behind it, or first, where it is 32, opens late with the same B
+  -- where no line names it B is 64: a trace in order with that B is open before the first line
+  pub default : (i : List ℕ) → let x = readAll (begun 64 (zeros roomSize)) (lines i) in output i ≡ shown (x .last) (x .count) (x .room)
+  pub opens-first : (b : ℕ) (l : List ℤ) → let o = answered (opened (record { kind = InOrder; size = Steps b; gaps = 0 }) l) in begun b l ≡ record { last = o .0; room = o .1; stage = Stage.Nothing; count = 0 }
+  -- `steps B` opens with that B; and `late K` behind it, or first, where it is 64, opens late with the same B
   pub by-steps : (s : State) (l : List ℤ) (b : ℕ) → obeyed Stage.Nothing s l (Line.Steps b) ≡ answered (opened (record { kind = InOrder; size = Steps b; gaps = 0 }) l)
   pub late-by-steps : (g : Stage) (b k : ℕ) (l m : List ℤ) (s : State) → opened (record { kind = InOrder; size = Steps b; gaps = 0 }) l ≡ (accepted s, m) → lateMay g ≡ true
       → obeyed g s m (Line.Late k) ≡ answered (opened (record { kind = Late; size = Steps b; gaps = k }) m)
+  -- a line has at most 64 bytes
   pub longest : lineMost ≡ 64
   -- what is shown is the listing of the input
   pub listed : (pieces : List (List ℕ)) → written (fedAll start pieces) ≡ output (joined pieces)

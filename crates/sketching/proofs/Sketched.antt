@@ -130,7 +130,7 @@ unfolding allPrintable broken
 printable-unbroken [] h = refl
 printable-unbroken (b ∷ c) h = rw (printable-byte b (and-left (printable b) (allPrintable c) h)) (printable-unbroken c (and-right (printable b) (allPrintable c) h))
 
-good-caption : (c i : List ℕ) → captionGood c ≡ true → drawnOf (c ++ (lineFeed ∷ i)) ≡ (let x = after i in drawn (x .last) (x .count) (x .room) c)
+pub good-caption : (c i : List ℕ) → captionGood c ≡ true → drawnOf (c ++ (lineFeed ∷ i)) ≡ (let x = after i in drawn (x .last) (x .count) (x .room) c)
 unfolding captionGood drawnOf sketched
 good-caption c i h =
     let e = printable-unbroken c (and-right (leb (length c) 200) (allPrintable c) h) in

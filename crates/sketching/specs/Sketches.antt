@@ -9,7 +9,7 @@ use Rattle.trace.specs.declared.Answer.the-variants.{Accepted, Refused}
 use Rattle.trace.specs.declared.Trace.{Trace}
 use Rattle.notation.specs.Signs.{lineFeed}
 use Rattle.notation.specs.Printing.{refused}
-use Rattle.listing.specs.Listing.{Standing, begun, lines, output, readAll, roomSize}
+use Rattle.listing.specs.Listing.{Standing, begun, defaultSteps, lines, output, readAll, roomSize}
 use Rattle.listing.specs.Lists.{atEnd, joined}
 use Rattle.captions.specs.Caption.{captionGood}
 use Rattle.drawing.specs.Picture.{picture}
@@ -18,7 +18,7 @@ use Rattle.sketching.specs.Heading.{Drawable, nothing, piecesFed, writte
 
 -- what stands after the lines of a trace
 abbrev pub after : List ℕ → Standing
-after i = readAll (begun (zeros roomSize)) (lines i)
+after i = readAll (begun defaultSteps (zeros roomSize)) (lines i)
 
 pub record Sketches : Type 0 where
   -- a good caption before the lines i: the picture of the buckets that the listing of i has, or what the listing of i is where it refuses a line

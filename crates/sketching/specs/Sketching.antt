@@ -11,7 +11,7 @@ use Rattle.trace.specs.declared.Answer.{Answer}
 use Rattle.trace.specs.declared.Answer.the-variants.{Accepted, Refused}
 use Rattle.notation.specs.Signs.{lineFeed}
 use Rattle.notation.specs.Printing.{refused}
-use Rattle.listing.specs.Listing.{begun, lines, readAll, roomSize}
+use Rattle.listing.specs.Listing.{begun, defaultSteps, lines, readAll, roomSize}
 use Rattle.captions.specs.Caption.{captionGood}
 use Rattle.drawing.specs.Picture.{picture}
 
@@ -39,4 +39,4 @@ unfoldable pub sketched : Answer → ℕ → List ℤ → List ℕ → List ℕ
 sketched a count l c = cond (captionGood c) (drawn a count l c) (refused 0 (number Refusal.Caption))
 
 unfoldable pub drawnOf : List ℕ → List ℕ
-drawnOf input = let x = readAll (begun (zeros roomSize)) (lines (traceIn input)) in sketched (x .last) (x .count) (x .room) (captionIn input)
+drawnOf input = let x = readAll (begun defaultSteps (zeros roomSize)) (lines (traceIn input)) in sketched (x .last) (x .count) (x .room) (captionIn input)

@@ -3,7 +3,7 @@
 use crate::support::{random_trace, Trace};
 use second::calls::Size;
 use second::classes::classes;
-use second::listing::list;
+use second::listing::{list, DEFAULT_STEPS};
 use second::long_lines::{self, READ};
 use second::random::Random;
 use second::rule::{worst_error, Kind};
@@ -157,9 +157,32 @@ fn the_listing_shows_what_the_calls_keep() {
 
 #[test]
 fn the_sample_shows_its_two_reading_drop() {
-    let output = listed(&second::sample::sample(second::sample::READINGS));
+    let output = listed(&second::sample::shipped());
     assert!(output.contains("\n1500 2 7383 7414 7398\n"));
     assert!(output.ends_with("total 2400 64 18\n"));
+}
+
+/// The number of the header is the one that the listing goes by where no line names it.
+#[test]
+fn the_default_is_the_header_s() {
+    let header = include_str!("../../../include/ndezulangi.h");
+    let line = header
+        .lines()
+        .find_map(|line| line.strip_prefix("#define NDZ_DEFAULT_STEPS "));
+    assert_eq!(line.unwrap().parse(), Ok(DEFAULT_STEPS));
+    for readings in 1..300 {
+        let lines: String = (0..readings)
+            .map(|tick| format!("{}\n", tick * tick))
+            .collect();
+        let late: String = (0..readings)
+            .map(|tick| format!("{tick} {}\n", tick * tick))
+            .collect();
+        let rows = |input: &str| listed(input).lines().count() as u64 - 1;
+        assert_eq!(rows(&lines), readings.min(2 * 64));
+        assert_eq!(rows(&format!("late 1\n{late}")), readings.min(2 * 64 + 1));
+        assert_eq!(listed(&format!("steps 64\n{lines}")), listed(&lines));
+        assert_eq!(rows(&format!("steps 32\n{lines}")), readings.min(2 * 32));
+    }
 }
 
 #[test]
@@ -182,7 +205,11 @@ fn classes_are_read_off_the_input() {
             "steps 1\nlate 1\n0 1\n1 2\n2 4\n3 4",
             "last line without a line feed, whole, merged: steps 1, late 1",
         ),
-        ("1\n-2\n", "whole, no header: negative readings"),
+        ("1\n-2\n", "whole, no steps, in order: negative readings"),
+        (
+            "late 1\n0 1\n1 -2\n",
+            "whole, no steps, late: negative readings",
+        ),
         ("bad", "last line without a line feed, refused 14"),
         (
             &format!("5\n{nines}\n"),
@@ -194,7 +221,9 @@ fn classes_are_read_off_the_input() {
         ),
         (
             &format!("{}-2147483648\n", &quiet[..65_530]),
-            "whole, no header: more than 150 readings, no header: negative readings, line of 11 bytes cut at 6",
+            "whole, no steps, in order: more than 150 readings, no steps, in order: another listing by 32, \
+             no steps, in order: another listing by 63, no steps, in order: another listing by 65, \
+             no steps, in order: negative readings, line of 11 bytes cut at 6",
         ),
         (
             &format!("{quiet}6 6\n"),

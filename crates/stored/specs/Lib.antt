@@ -1,0 +1,2 @@
+-- Pages made while another B was the default, as statements about every trace, for a stranger to read without the proofs.
+pub mod Stored

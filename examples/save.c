@@ -1,7 +1,7 @@
 /* save: reads a trace's lines from standard input, `steps B`, then `late K` where readings name their ticks, then a reading a line, and writes the saved
  * form of its buckets to standard output. Nothing is opened by default: the first line must name the steps. Numbers are read as sscanf reads them, which
  * takes more than the listing program does. The exit status is 0, or 1 where something is refused or cannot be read or written: standard error then says
- * what, and nothing is written. Built by tools/example and run by tools/rebuild. */
+ * what, and nothing is written. Run by tools/rebuild. */
 #include "ndezulangi.h"
 #include <inttypes.h>
 #include <stdio.h>

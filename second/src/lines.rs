@@ -238,8 +238,9 @@ fn late_of_any_runs(number: u64) -> Vec<u8> {
     text.into_bytes()
 }
 
-/// Late by default: about as many readings as without a header and, since one run adds one to the limit, one more than 2B + 1. The ticks come in order, displaced a little,
-/// every second first, from both ends, or in bursts with one tick in forty missing. The last line lacks its line feed in every second.
+/// Late by default: about as many readings as without a header and, since one run adds one to the limit, one more than 2B + 1. The
+/// ticks come in order, displaced a little, every second first, from both ends, or in bursts with one tick in forty missing. The last
+/// line lacks its line feed in every second.
 fn late_without_steps(number: u64) -> Vec<u8> {
     const READINGS: [usize; 9] = [65, 128, 129, 130, 151, 200, 257, 1_000, 3_000];
     const FED: [(Shape, u32, u8, u64); 5] = [

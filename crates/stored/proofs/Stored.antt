@@ -1,14 +1,13 @@
 -- A line that says b, read first, leaves what the default b does, one line further.
-use Prim.Native.Nat.{ℕ, zero, suc, _*_, _-_, _≤_, _<_}
+use Prim.Native.Nat.{ℕ, zero, suc, _*_, _-_, _≤_}
 use mathlib.Core.Path.{_≡_, refl, sym, ap, _∙_}
-use mathlib.Core.Bool.{Bool, true, false, true≢false, false≢true}
+use mathlib.Core.Bool.{true, false, true≢false}
 use mathlib.Core.List.{List, [], _∷_, _++_, List·Memᴰ, List·Memᴰ·head, List·Memᴰ·tail}
 use native.Mathlib.Omega.{arith}
-use borrow.Author.Tests.{eqb-true, eqb-false, le-leb, leb-true, leb-false}
-use lib.Dec.{eqb, leb, ltb}
+use borrow.Author.Tests.{eqb-true, le-leb}
+use lib.Dec.{eqb}
 use lib.IntN.{ℤ, pos}
 use lib.ListN.{drop, length, length-replicate, take}
-use lib.Seq.{length-take-le, take-all}
 use Rattle.rule.specs.declared.Opening.{Opening}
 use Rattle.rule.specs.declared.State.{State}
 use Rattle.rule.specs.declared.Refusal.{Refusal}
@@ -17,24 +16,22 @@ use Rattle.rule.specs.Numbers.{slotWidth}
 use Rattle.rule.specs.Room.{bounded, flat, gapsGood, laid, within, zeros}
 use Rattle.rule.specs.Table.{limitOver, needed}
 use Rattle.rule.proofs.Whole.{by-test}
-use Rattle.rule.proofs.Ruling.{and-left, and-right}
 use Rattle.rooms.proofs.Granting.{Granted, admits}
 use Rattle.trace.specs.declared.Answer.{Answer}
 use Rattle.trace.specs.declared.Answer.the-variants.{Accepted, Refused}
 use Rattle.trace.specs.declared.Trace.{Trace}
 use Rattle.trace.specs.Answers.{answer, answered}
 use Rattle.notation.specs.declared.Line.{Line}
-use Rattle.notation.specs.declared.Signed.{Signed}
-use Rattle.notation.specs.declared.Unsigned.{Unsigned}
-use Rattle.notation.specs.Reading.{alone, digits, digitsAfter, firstSpace, isDigit, late, lateWord, lineMost, lineOf, number, pair, same, signedField, spaced, stepsWord, unsignedField}
-use Rattle.notation.specs.Signs.{ascii, lineFeed, space}
-use Rattle.notation.proofs.Lines.{space-within}
+use Rattle.notation.specs.Reading.{digits, digitsAfter, firstSpace, isDigit, lineOf, number, same, spaced, unsignedField}
+use Rattle.notation.specs.Signs.{ascii, lineFeed}
 use Rattle.listing.specs.declared.Stage.{Stage}
-use Rattle.listing.specs.Listing.{Standing, begins, begun, inOrder, lines, obeyed, output, read, readAll, roomSize, shown, stageAfter}
+use Rattle.listing.specs.Listing.{Standing, begun, inOrder, lines, obeyed, output, read, readAll, roomSize, shown, stageAfter}
+use Rattle.listing.specs.Feeding.{hasEnded}
 use Rattle.listing.proofs.Splitting.{Unbroken, lines-ended}
 use Rattle.sketching.specs.Sketching.{drawn, sketched}
 use Rattle.sketching.proofs.Sketched.{good-caption}
-use Rattle.stored.specs.Stored.{Openable, Says, Stored, Unnamed, afterWith, drawnWith, outputWith, under}
+use Rattle.stored.specs.Stored.{Openable, Says, Stored, Unnamed, afterWith, drawnWith, outputWith, rebuilt, under}
+use Rattle.stored.proofs.First.{begins-so, headed, isSteps, same-word, steps-first, word-read}
 
 abbrev standing : Answer → List ℤ → Stage → ℕ → Standing
 standing a l g n = record { last = a; room = l; stage = g; count = n }
@@ -143,93 +140,34 @@ says-32 : Says 32 (ascii "steps 32")
 unfolding lineOf firstSpace spaced same unsignedField number digits digitsAfter isDigit within Unbroken
 says-32 = record { means = refl; unbroken = no-line-feed (ascii "steps 32") (refl, (refl, (refl, (refl, (refl, (refl, (refl, (refl, tt)))))))) }
 
--- ---- the first word of a header
+-- ---- a trace that begins with the word
 
-same-word : (x y : List ℕ) → same x y ≡ true → x ≡ y
+-- whatever the default: a line that cannot be read ends the run
+unread-first : (b : ℕ) (line : List ℕ) (ls : List (List ℕ)) → Openable b → lineOf line ≡ Line.Unreadable → readAll (begun b (zeros roomSize)) (line ∷ ls) ≡ standing (Refused Refusal.Line) (zeros roomSize) Stage.Readings 1
+unfolding begun readAll read obeyed answer
+unread-first b line ls good e = rw (open-by-default b good, e) (refused-stays Refusal.Line (zeros roomSize) Stage.Readings 1 ls)
+
+named-anyway : (d b : ℕ) (i : List ℕ) (t : Trace) → Openable d → Openable b → take 6 i ≡ ascii "steps " → afterWith b i .last ≡ Accepted t → afterWith d i ≡ afterWith b i
+named-anyway d b i t good good′ w e =
+    let h = headed i w in
+    let line : List ℕ = ascii "steps " ++ h .rest in
+    word-read (h .rest) (λ (x : Line). lineOf line ≡ x → afterWith d i ≡ afterWith b i) (λ n m. named d b n line i (h .others) good good′ (h .split) m)
+    (λ m. absurd (true≢false (ap (λ (x : Standing). hasEnded (x .last)) (sym (unread-first b line (h .others) good′ m)) ∙ ap hasEnded (rw (h .split) at e))))
+    refl
+
+-- ---- what the job hands over
+
+said-32 : (i : List ℕ) → same (take 6 i) (ascii "steps ") ≡ false → Unnamed i
 unfolding same
-same-word [] [] e = refl
-same-word [] (b ∷ y) e = absurd (false≢true e)
-same-word (a ∷ x) [] e = absurd (false≢true e)
-same-word (a ∷ x) (b ∷ y) e = rw (eqb-true a b (and-left (eqb a b) (same x y) e), same-word x y (and-right (eqb a b) (same x y) e))
+said-32 i f line others b e m = let w = begins-so i line others e (steps-first line (ap isSteps m)) in true≢false (rw w at f)
 
-abbrev isSteps : Line → Bool
-isSteps (Line.Steps b) = true
-isSteps (Line.Late k) = false
-isSteps (Line.Alone v) = false
-isSteps (Line.Pair tick v) = false
-isSteps Line.Unreadable = false
-
-alone-no-steps : (v : Signed) → isSteps (alone v) ≡ false
-alone-no-steps (Signed.Within z) = refl
-alone-no-steps Signed.Outside = refl
-
-late-no-steps : (k : Unsigned) → isSteps (late k) ≡ false
-late-no-steps (Unsigned.Within n) = refl
-late-no-steps Unsigned.Outside = refl
-
-pair-no-steps : (t : Unsigned) (v : Signed) → isSteps (pair t v) ≡ false
-pair-no-steps (Unsigned.Within n) (Signed.Within z) = refl
-pair-no-steps (Unsigned.Within n) Signed.Outside = refl
-pair-no-steps Unsigned.Outside v = refl
-
-spaced-steps : (before behind : List ℕ) → isSteps (spaced before behind) ≡ true → before ≡ stepsWord
-unfolding spaced
-spaced-steps before behind e =
-    by-test (same before stepsWord) (same-word before stepsWord)
-    (λ f.
-    by-test (same before lateWord) (λ g. absurd (false≢true (sym (late-no-steps (unsignedField (number behind))) ∙ (rw (f, g) at e))))
-    (λ g. absurd (false≢true (sym (pair-no-steps (unsignedField (number before)) (signedField (number behind))) ∙ (rw (f, g) at e)))))
-
--- the first space ends the word before it
-to-the-space : (l : List ℕ) → firstSpace l < length l → take (suc (firstSpace l)) l ≡ take (firstSpace l) l ++ (space ∷ [])
-unfolding firstSpace
-to-the-space [] h = absurd (omega (arith, h))
-to-the-space (b ∷ l) h =
-    by-test (eqb b space) (λ e. rw e (ap (λ (x : ℕ). x ∷ []) (eqb-true b space e)))
-    (λ e. rw e (ap (λ (x : List ℕ). b ∷ x) (to-the-space l (let g : suc (firstSpace l) < suc (length l) = rw e at h in omega (arith, g)))))
-
-six-bytes : (l : List ℕ) → firstSpace l < length l → take (firstSpace l) l ≡ stepsWord → take 6 l ≡ ascii "steps "
-six-bytes l h e =
-    let five : firstSpace l ≡ 5 = sym (length-take-le (firstSpace l) l (omega (arith, h))) ∙ ap length e in
-    ap (λ (n : ℕ). take n l) (let six : 6 ≡ suc (firstSpace l) = omega (arith, five) in six) ∙ to-the-space l h ∙ ap (λ (w : List ℕ). w ++ (space ∷ [])) e
-
-steps-first : (line : List ℕ) → isSteps (lineOf line) ≡ true → take 6 line ≡ ascii "steps "
-unfolding lineOf
-steps-first line e =
-    by-test (ltb lineMost (length line)) (λ f. absurd (false≢true (rw f at e)))
-    (λ f.
-    by-test (eqb (firstSpace line) (length line)) (λ g. absurd (false≢true (sym (alone-no-steps (signedField (number line))) ∙ (rw (f, g) at e))))
-    (λ g.
-    six-bytes line (let h = space-within line in let other = eqb-false (firstSpace line) (length line) g in omega (arith, h, other))
-    (spaced-steps (take (firstSpace line) line) (drop (suc (firstSpace line)) line) (rw (f, g) at e))))
-
--- ---- an input begins as its first line does
-
-abbrev firstOf : List (List ℕ) → List ℕ
-firstOf [] = []
-firstOf (l ∷ ls) = l
-
-begun-alike : (n b : ℕ) (ls : List (List ℕ)) (i line : List ℕ) (others : List (List ℕ)) → ((l : List ℕ) (m : List (List ℕ)) → ls ≡ l ∷ m → n ≤ length l → take n i ≡ take n l)
-    → begins b ls ≡ line ∷ others → suc n ≤ length line → take (suc n) (b ∷ i) ≡ take (suc n) line
-unfolding begins
-begun-alike zero b [] i line others same e h = let q : b ∷ [] ≡ line = ap firstOf e in ap (take 1) q
-begun-alike (suc n) b [] i line others same e h = let q : b ∷ [] ≡ line = ap firstOf e in absurd (omega (arith, h, ap length q))
-begun-alike n b (l ∷ m) i line others same e h =
-    let q : b ∷ l ≡ line = ap firstOf e in ap (λ (x : List ℕ). b ∷ x) (same l m refl (let g = ap length q in omega (arith, h, g))) ∙ ap (take (suc n)) q
-
-first-alike : (n : ℕ) (i line : List ℕ) (others : List (List ℕ)) → lines i ≡ line ∷ others → n ≤ length line → take n i ≡ take n line
-unfolding lines
-first-alike zero i line others e h = refl
-first-alike (suc n) [] line others e h = absurd (let q : [] ≡ line = ap firstOf e in omega (arith, h, ap length q))
-first-alike (suc n) (b ∷ i) line others e h =
-    by-test (eqb b lineFeed) (λ f. absurd (let q : [] ≡ line = ap firstOf (rw f at e) in omega (arith, h, ap length q)))
-    (λ f. begun-alike n b (lines i) i line others (λ l m g k. first-alike n i l m g k) (rw f at e) h)
-
-begins-so : (i line : List ℕ) (others : List (List ℕ)) → lines i ≡ line ∷ others → take 6 line ≡ ascii "steps " → take 6 i ≡ ascii "steps "
-begins-so i line others e w =
-    let six : length (take 6 line) ≡ 6 = ap length w in
-    let long : 6 ≤ length line = by-test (leb 6 (length line)) (leb-true 6 (length line)) (λ f. let short = leb-false 6 (length line) f in absurd (omega (arith, short, six, ap length (take-all 6 line (omega (arith, short)))))) in
-    first-alike 6 i line others e long ∙ w
+anew : (d : ℕ) (i : List ℕ) (t : Trace) (shows : Seen → List ℕ) → Openable d → afterWith 32 i .last ≡ Accepted t
+    → (shows (seen (further (afterWith 32 i))) ≡ shows (seen (afterWith 32 i))) → shows (seen (afterWith d (rebuilt i))) ≡ shows (seen (afterWith 32 i))
+unfolding rebuilt
+anew d i t shows good e alike =
+    by-test (same (take 6 i) (ascii "steps "))
+    (λ f. rw f (ap (λ (x : Standing). shows (seen x)) (named-anyway d 32 i t good (record { least = omega arith; most = omega arith }) (same-word (take 6 i) (ascii "steps ") f) e)))
+    (λ f. rw f (ap shows (said d 32 (ascii "steps 32") i good says-32 (said-32 i f)) ∙ alike))
 
 pub stored : Stored
 unfolding output outputWith drawnWith begun sketched shown drawn
@@ -244,4 +182,6 @@ stored = record {
   drawn-named = λ d b n line c i others good good′ e m. ap (λ (x : Standing). drawnBy c (seen x)) (named d b n line i others good good′ e m);
   says-32 = says-32;
   unnamed = λ i none line others b e m. none (begins-so i line others e (steps-first line (ap isSteps m)));
+  listed-anew = λ d i t good e. anew d i t listedBy good e (rw e);
+  drawn-anew = λ d c i t good e. anew d i t (drawnBy c) good e (rw e);
 }

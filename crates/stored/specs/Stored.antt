@@ -1,7 +1,7 @@
 -- Pages made while another B was the default: each program still writes them, where a line before the trace says that B.
 use Prim.Native.Nat.{ℕ, suc, _≤_}
 use mathlib.Core.Path.{_≡_}
-use mathlib.Core.Bool.{true}
+use mathlib.Core.Bool.{true, cond}
 use mathlib.Core.List.{List, [], _∷_, _++_, List·Memᴰ}
 use lib.ListN.{take}
 use Rattle.rule.specs.declared.Refusal.{Refusal}
@@ -11,7 +11,7 @@ use Rattle.trace.specs.declared.Answer.the-variants.{Accepted, Refused}
 use Rattle.trace.specs.declared.Trace.{Trace}
 use Rattle.notation.specs.declared.Line.{Line}
 use Rattle.notation.specs.Printing.{refused}
-use Rattle.notation.specs.Reading.{lineOf}
+use Rattle.notation.specs.Reading.{lineOf, same}
 use Rattle.notation.specs.Signs.{ascii, lineFeed}
 use Rattle.listing.specs.Listing.{Standing, begun, lines, output, readAll, roomSize, shown}
 use Rattle.captions.specs.Caption.{captionGood}
@@ -44,6 +44,10 @@ pub record Says (b : ℕ) (line : List ℕ) : Type 0 where
   pub means : lineOf line ≡ Line.Steps b
   pub unbroken : List·Memᴰ lineFeed line → ⊥
 
+-- what tools/rebuild hands to the programs: a trace that begins with `steps` and a space as it is, any other behind a line that says 32
+unfoldable pub rebuilt : List ℕ → List ℕ
+rebuilt i = cond (same (take 6 i) (ascii "steps ")) i (under (ascii "steps 32") i)
+
 -- a number of steps that can be opened
 pub record Openable (d : ℕ) : Type 0 where
   pub least : 1 ≤ d
@@ -64,6 +68,8 @@ pub record Stored : Type 0 where
   -- a trace that names its own is listed and drawn alike, whatever the default
   pub listed-named : (d b n : ℕ) (line i : List ℕ) (others : List (List ℕ)) → Openable d → Openable b → lines i ≡ line ∷ others → lineOf line ≡ Line.Steps n → outputWith d i ≡ outputWith b i
   pub drawn-named : (d b n : ℕ) (line c i : List ℕ) (others : List (List ℕ)) → Openable d → Openable b → lines i ≡ line ∷ others → lineOf line ≡ Line.Steps n → drawnWith d c i ≡ drawnWith b c i
-  -- `steps 32` says 32, and a trace that does not begin with `steps` and a space names none
+  -- so every trace that was listed or drawn when the default was 32 is listed and drawn the same, byte for byte, of what tools/rebuild hands over, whatever the default is
   pub says-32 : Says 32 (ascii "steps 32")
   pub unnamed : (i : List ℕ) → (take 6 i ≡ ascii "steps " → ⊥) → Unnamed i
+  pub listed-anew : (d : ℕ) (i : List ℕ) (t : Trace) → Openable d → afterWith 32 i .last ≡ Accepted t → outputWith d (rebuilt i) ≡ outputWith 32 i
+  pub drawn-anew : (d : ℕ) (c i : List ℕ) (t : Trace) → Openable d → afterWith 32 i .last ≡ Accepted t → drawnWith d c (rebuilt i) ≡ drawnWith 32 c i

@@ -1,3 +1,2 @@
--- The pieces of a picture, as they are printed one behind the other; one outcome for the call.
-pub mod Pieces
+-- One outcome for the call.
 pub mod OneOutcome

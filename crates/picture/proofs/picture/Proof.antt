@@ -16,7 +16,7 @@ use Rattle.drawing.specs.declared.Drawn.{Drawn}
 use Rattle.drawing.specs.Picture.{picture}
 use Rattle.drawing.proofs.Answering.{all-drawn, bad-caption, too-long, unsound}
 use Rattle.drawing.proofs.Longest.{longest}
-use Rattle.picture.specs.Drawable.{Drawable}
+use Rattle.sheet.specs.Drawable.{Drawable}
 use Rattle.picture.proofs.picture.Statement.{statement}
 use Rattle.picture.proofs.picture.Tie as tie
 

@@ -1,4 +1,4 @@
--- `picture::put_front` meets its contract: five pieces, one behind the other.
+-- `sheet::put_front` meets its contract: five pieces, one behind the other.
 use Prim.Native.Nat.{_-_}
 use mathlib.Core.Path.{_≡_, _∙_}
 use mathlib.Core.List.{[], _∷_}
@@ -9,9 +9,9 @@ use lib.ListN.{length, take, drop}
 use Rattle.output.proofs.Left.{Left, left-all, left-none, left-room, left-then}
 use Rattle.captions.specs.Caption.{escaped}
 use Rattle.drawing.specs.Picture.{behindText, betweenText, front, headText}
-use Rattle.picture.proofs.Pieces.{behind-text, between-text, first-line, front-is, head-text, second-line}
-use Rattle.picture.proofs.put_front.Statement.{statement}
-use Rattle.picture.proofs.put_front.Tie as tie
+use Rattle.sheet.proofs.Pieces.{behind-text, between-text, first-line, front-is, head-text, second-line}
+use Rattle.sheet.proofs.put_front.Statement.{statement}
+use Rattle.sheet.proofs.put_front.Tie as tie
 
 begun : (c : tie.After-first-line) → let a = c .before .before .before .args in let s = a .caption .now in let cut = c .first-line .result in
     Left (a .out .now) (a .at) (front s) (a .at) (a .out .now) (headText ∷ escaped (take (cut - 0) (drop 0 s)) ∷ betweenText ∷ escaped (take (length s - cut) (drop cut s)) ∷ behindText ∷ [])

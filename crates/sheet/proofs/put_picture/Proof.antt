@@ -1,4 +1,4 @@
--- `picture::put_picture` meets its contract: five pieces, one behind the other.
+-- `sheet::put_picture` meets its contract: five pieces, one behind the other.
 use Prim.Native.Nat.{_≤_, _<_, _^_}
 use mathlib.Core.Path.{_≡_, _∙_}
 use mathlib.Core.List.{[], _∷_}
@@ -9,9 +9,9 @@ use Rattle.rule.specs.Room.{slots}
 use Rattle.output.proofs.Left.{Left, left-all, left-none, left-room, left-then}
 use Rattle.scale.proofs.Viewing.{some-span}
 use Rattle.drawing.specs.Picture.{curveText, endText, front, picture, polylines, runsOf, scale, viewOf}
-use Rattle.picture.proofs.Pieces.{curve-text, end-text, first-most, picture-is, span-most}
-use Rattle.picture.proofs.put_picture.Statement.{statement}
-use Rattle.picture.proofs.put_picture.Tie as tie
+use Rattle.sheet.proofs.Pieces.{curve-text, end-text, first-most, picture-is, span-most}
+use Rattle.sheet.proofs.put_picture.Statement.{statement}
+use Rattle.sheet.proofs.put_picture.Tie as tie
 
 begun : (c : tie.After-view) → let a = c .before .before .before .args in let t = slots (a .room .now) 0 (a .used) in let v = c .view .result in
     Left (a .out .now) (a .at) (picture t (a .caption .now)) (a .at) (a .out .now) (front (a .caption .now) ∷ scale (a .used) v ∷ curveText ∷ polylines v (runsOf t) ∷ endText ∷ [])

@@ -1,4 +1,4 @@
--- `picture::put_scale` meets its contract: a text with eight numbers, or one with none.
+-- `sheet::put_scale` meets its contract: a text with eight numbers, or one with none.
 use Prim.Native.Nat.{_+_, _-_, _<_, _^_}
 use mathlib.Core.Path.{_≡_, ap, _∙_}
 use mathlib.Core.List.{[], _∷_}
@@ -12,9 +12,9 @@ use mir.Facts.{toZ-pos}
 use Rattle.rule.proofs.Signed.{read, widened, widens}
 use Rattle.output.specs.Output.{filled}
 use Rattle.drawing.specs.Picture.{emptyText, scale, scaleText}
-use Rattle.picture.proofs.Pieces.{empty-text, scale-none, scale-some}
-use Rattle.picture.proofs.put_scale.Statement.{statement}
-use Rattle.picture.proofs.put_scale.Tie as tie
+use Rattle.sheet.proofs.Pieces.{empty-text, scale-none, scale-some}
+use Rattle.sheet.proofs.put_scale.Statement.{statement}
+use Rattle.sheet.proofs.put_scale.Tie as tie
 
 text : (c : tie.After-struct-known4) → let a = c .before .before .before .before .before .before .before .before .before .before .before .before .args in let v = a .v in
     let x = toZ w64 (ofZ w64 (c .before .before .before .before .before .before .before .before .down .result)) in

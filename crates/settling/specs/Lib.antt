@@ -1,0 +1,2 @@
+-- A byte behind the readings that wait.
+pub mod Settling

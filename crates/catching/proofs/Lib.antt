@@ -1,0 +1,2 @@
+-- One outcome.
+pub mod OneOutcome

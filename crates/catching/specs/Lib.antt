@@ -1,0 +1,2 @@
+-- The readings of the listing's input that wait, taken.
+pub mod Catching

@@ -1,4 +1,3 @@
 -- Laws that belong to no one function.
-pub mod Standing
 pub mod Ending
 pub mod OneOutcome

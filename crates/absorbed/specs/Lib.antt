@@ -1,0 +1,2 @@
+-- What the last bucket takes of the readings that follow.
+pub mod Grew

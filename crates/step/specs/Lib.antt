@@ -1,0 +1,2 @@
+-- One step of a stretch of readings in order in scratch places.
+pub mod Step

@@ -1,12 +1,8 @@
--- Each public function's contract allows one outcome.
+-- The public function's contract allows one outcome.
 use mathlib.Core.Path.{sym, ap, _∙_}
 use Rattle.rule.specs.Outcomes.{OneOutcome}
-use Rattle.rule.proofs.Determined.{both, by-result}
-use Rattle.captioning.proofs.caption_good as caption-good
+use Rattle.rule.proofs.Determined.{both}
 use Rattle.captioning.proofs.put_caption as put-caption
-
-pub caption-good-one : OneOutcome caption-good.ended (λ M. caption-good.clauses)
-caption-good-one M 𝓤 H A mem run κs a g r r′ l l′ = by-result 𝓤
 
 pub put-caption-one : OneOutcome put-caption.ended (λ M. put-caption.clauses)
 put-caption-one M 𝓤 H A mem run κs a g r r′ l l′ = both 𝓤 (λ p q. (p .next ∙ sym (q .next), ap (λ x. (x, l .1)) (p .bytes ∙ sym (q .bytes))))

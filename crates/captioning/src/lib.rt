@@ -1,37 +1,10 @@
-// A caption looked at and printed.
-ghost use mathlib.Core.Path.{_≡_};
+// A caption printed.
 ghost use Prim.Native.Nat.{_+_, _<_, _^_};
 ghost use lib.ListN.{length};
 ghost use Rattle.output.specs.Output.{Put};
-ghost use Rattle.captions.specs.Caption.{captionGood, escaped, leaving, printable, signs};
+ghost use Rattle.captions.specs.Caption.{escaped, leaving, signs};
 use output::put_byte;
-use output::put_text;
-
-fn is_printable(b: u8) -> bool
-    ensures { λ r. ⌜ r ≡ printable b ⌝ }
-{
-    if b < 0x20 {
-        return false;
-    }
-    b <= 0x7E
-}
-
-// At most 200 bytes, each from the space to the tilde.
-pub fn caption_good(caption: &[u8]) -> bool
-    ensures { λ r. ⌜ r ≡ captionGood (now (caption .entry)) ⌝ }
-{
-    if 200 < caption.len() {
-        return false;
-    }
-    let mut i = 0;
-    while i < caption.len() {
-        if !is_printable(caption[i]) {
-            return false;
-        }
-        i += 1;
-    }
-    true
-}
+use wording::put_text;
 
 // One byte as it leaves.
 fn put_leaving(out: &mut [u8], at: usize, b: u8) -> usize

@@ -8,11 +8,11 @@ ghost use Rattle.output.specs.Output.{Put};
 ghost use Rattle.drawing.specs.Picture.{pointsOf, polylines, printed, runsOf};
 ghost use Rattle.curve.specs.Joints.{joint, linesAfter};
 use drawing::View;
-use output::put_text;
 use rule::Bucket;
 use scale::down;
 use scale::end_of;
 use scale::start_of;
+use wording::put_text;
 
 // Both ends of a bucket, at its level.
 fn put_points(out: &mut [u8], at: usize, v: View, b: Bucket) -> usize

@@ -1,8 +1,8 @@
 // The call that writes a picture: the same text is printed twice, into one byte for its length, and then into the caller's output.
 ghost use mathlib.Core.Path.{_≡_};
 ghost use Rattle.drawing.specs.Call.{pictureOutcome};
-use captioning::caption_good;
 use drawing::Drawn;
+use legible::caption_good;
 use rule::Refusal;
 use sheet::put_picture;
 use sound::sound;

@@ -5,8 +5,8 @@ ghost use lib.ListN.{length};
 ghost use Rattle.notation.specs.Printing.{Printed, decimal, lineRoom, refused, row, total};
 ghost use Rattle.output.specs.Output.{Put, filled};
 use output::put_decimal;
-use output::put_text;
 use rule::Bucket;
+use wording::put_text;
 
 // A text, and a number behind it that may need all of 64 bits.
 fn put_count(out: &mut [u8], at: usize, text: &[u8], count: usize) -> usize

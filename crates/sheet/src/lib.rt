@@ -9,9 +9,9 @@ ghost use Rattle.sheet.specs.Drawable.{Drawable};
 use captioning::put_caption;
 use curve::put_lines;
 use drawing::View;
-use output::put_text;
 use scale::down;
 use scale::view;
+use wording::put_text;
 
 // 100, or all where there are fewer.
 fn first_line(n: usize) -> usize

@@ -1,6 +1,6 @@
 // The picture program: a caption and a trace's lines from standard input, the picture to standard output, or the first refused line.
-use captioning::caption_good;
 use heading::head;
+use legible::caption_good;
 use sketch::sketch;
 use sketching::Heading;
 

@@ -1,4 +1,4 @@
--- `output::put_text` meets its contract: what is left of the text, printed from here on, gives what the whole gives from the start.
+-- `wording::put_text` meets its contract: what is left of the text, printed from here on, gives what the whole gives from the start.
 use Prim.Native.Nat.{ℕ, _+_, _-_, _≤_, _<_}
 use mathlib.Core.Path.{_≡_, refl, sym, _∙_}
 use mathlib.Core.List.{List, [], _∷_, append-nil}
@@ -8,11 +8,11 @@ use denote.Ref.{now}
 use lib.Dec.{eqb}
 use lib.IntN.{ℤ}
 use lib.ListN.{length, getD, drop}
 use Rattle.output.specs.Output.{filled, mark, sign}
 use Rattle.output.proofs.Left.{Left, left-all, left-empty, left-none, left-room, left-split, left-then}
-use Rattle.output.proofs.Filling.{filled-done, filled-next, used-within}
-use Rattle.output.proofs.put_text.Statement.{statement}
-use Rattle.output.proofs.put_text.Tie as tie
+use Rattle.wording.proofs.Filling.{filled-done, filled-next, used-within}
+use Rattle.wording.proofs.put_text.Statement.{statement}
+use Rattle.wording.proofs.put_text.Tie as tie
 
 -- the piece of the next byte apart from the rest
 next-piece : {o p all : List ℕ} {at n : ℕ} (t : List ℕ) (ns : List ℤ) (i k : ℕ) → i < length t → Left o at all n p (filled (drop i t) (drop k ns) ∷ []) → Left o at all n p (sign (getD t i 0) (drop k ns) ∷ filled (drop (i + 1) t) (drop (cond (eqb (getD t i 0) mark) (k + 1) k) ns) ∷ [])

@@ -1,4 +1,4 @@
--- `captioning::caption_good` meets its contract: the bytes from here on decide as all of them do.
+-- `legible::caption_good` meets its contract: the bytes from here on decide as all of them do.
 use Prim.Native.Nat.{_-_, _≤_}
 use mathlib.Core.Path.{_≡_, refl, _∙_}
 use native.Mathlib.Omega.{arith}
@@ -7,8 +7,8 @@ use lib.ListN.{drop, length}
 use Rattle.rule.proofs.Ruling.{flipped}
 use Rattle.captions.specs.Caption.{allPrintable, captionGood, captionMost}
 use Rattle.captions.proofs.Escaping.{printable-done, printable-next}
-use Rattle.captioning.proofs.caption_good.Statement.{statement}
-use Rattle.captioning.proofs.caption_good.Tie as tie
+use Rattle.legible.proofs.caption_good.Statement.{statement}
+use Rattle.legible.proofs.caption_good.Tie as tie
 
 abbrev Inv-loop : tie.InvT-loop
 Inv-loop caption i₀ i = (i ≤ length caption) × (allPrintable caption ≡ allPrintable (drop i caption))

@@ -1,8 +1,8 @@
--- `captioning::is_printable` meets its contract.
+-- `legible::is_printable` meets its contract.
 use borrow.Author.Tests.{le-leb, lt-leb}
 use Rattle.captions.specs.Caption.{printable}
-use Rattle.captioning.proofs.is_printable.Statement.{statement}
-use Rattle.captioning.proofs.is_printable.Tie as tie
+use Rattle.legible.proofs.is_printable.Statement.{statement}
+use Rattle.legible.proofs.is_printable.Tie as tie
 
 returns : tie.Need-returns
 unfolding printable

@@ -1,11 +1,11 @@
--- `output::number` meets its contract.
+-- `wording::number` meets its contract.
 use mathlib.Core.Path.{sym}
 use borrow.Author.Needs.{needs}
 use denote.Ref.{now}
 use lib.IntN.{pos}
 use lib.ListN.{List·getD-eq-default}
-use Rattle.output.proofs.number.Statement.{statement}
-use Rattle.output.proofs.number.Tie as tie
+use Rattle.wording.proofs.number.Statement.{statement}
+use Rattle.wording.proofs.number.Tie as tie
 
 pub number-spec : {M : Type 1} → statement M
 number-spec =

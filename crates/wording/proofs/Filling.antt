@@ -1,4 +1,4 @@
--- A text with numbers in it, byte by byte, and how long it is.
+-- A text with numbers in it, byte by byte.
 use Prim.Native.Nat.{ℕ, _+_, _≤_, _<_}
 use mathlib.Core.Path.{_≡_}
 use mathlib.Core.Bool.{cond}
@@ -13,8 +13,7 @@ use lib.ListN.{length, getD, drop, drop-of-length-le, length-append}
 use lib.Seq.{drop-cons, drop-drop, getD-drop}
 use Rattle.rule.proofs.Whole.{by-test, cond-ind}
 use Rattle.notation.specs.Printing.{whole}
-use Rattle.notation.proofs.Texts.{one-digit}
 use Rattle.output.specs.Output.{filled, mark, sign, unused}
 
 module _ (b : ℕ) (ns : List ℤ) where
   pub number-sign : b ≡ mark → sign b ns ≡ whole (getD ns 0 (pos 0))
@@ -44,33 +43,3 @@ module _ (t : List ℕ) (ns : List ℤ) where
   pub filled-done : (i k : ℕ) → length t ≤ i → filled (drop i t) (drop k ns) ≡ []
   unfolding filled
   filled-done i k h = rw (drop-of-length-le t {i = i} h)
-
--- ---- how long it is
-
--- numbers of at most k digits and signs each; where there are no more, a mark is 0, which has one
-abbrev pub Short : ℕ → List ℤ → Type 0
-Short k [] = 1 ≤ k
-Short k (n ∷ ns) = (length (whole n) ≤ k) × Short k ns
-
--- bytes that are enough for a text with such numbers in it
-abbrev pub widest : ℕ → List ℕ → ℕ
-widest k [] = 0
-widest k (b ∷ t) = cond (eqb b mark) k 1 + widest k t
-
-module _ (k : ℕ) where
-  short-first : (ns : List ℤ) → Short k ns → length (whole (getD ns 0 (pos 0))) ≤ k
-  unfolding whole
-  short-first [] h = rw (one-digit 0 (omega arith)) h
-  short-first (n ∷ ns) h = h .0
-
-  short-rest : (ns : List ℤ) → Short k ns → Short k (drop 1 ns)
-  short-rest [] h = h
-  short-rest (n ∷ ns) h = h .1
-
-  pub filled-short : (t : List ℕ) (ns : List ℤ) → Short k ns → length (filled t ns) ≤ widest k t
-  unfolding filled sign unused
-  filled-short [] ns h = omega arith
-  filled-short (b ∷ t) ns h =
-      by-test (eqb b mark)
-      (λ e. rw (e, length-append) (omega (arith, short-first ns h, filled-short t (drop 1 ns) (short-rest ns h))))
-      (λ e. rw (e, length-append) (omega (arith, filled-short t ns h)))

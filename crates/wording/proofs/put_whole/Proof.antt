@@ -1,4 +1,4 @@
--- `output::put_whole` meets its contract: behind the minus sign stands the size, which is one more than the number turned over.
+-- `wording::put_whole` meets its contract: behind the minus sign stands the size, which is one more than the number turned over.
 use Prim.Native.Nat.{_+_}
 use mathlib.Core.Path.{_≡_, ap}
 use mathlib.Core.Bool.{true}
@@ -11,9 +11,9 @@ use mir.Facts.{toZ-ofZ}
 use Rattle.rule.proofs.Signed.{straight-casts, turned-casts, turned-fits}
 use Rattle.rule.proofs.Whole.{whole, abs, difference, one-side}
 use Rattle.notation.proofs.Texts.{below-zero, not-below-zero}
 use Rattle.output.proofs.Left.{then}
-use Rattle.output.proofs.put_whole.Statement.{statement}
-use Rattle.output.proofs.put_whole.Tie as tie
+use Rattle.wording.proofs.put_whole.Statement.{statement}
+use Rattle.wording.proofs.put_whole.Tie as tie
 
 size : (z : ℤ) → ltZ z (pos 0) ≡ true → natAbs (negsuc 0 -ℤ z) + 1 ≡ natAbs z
 size z h = omega (whole, abs (negsuc 0 -ℤ z), abs z, difference (negsuc 0) z, one-side z, one-side (negsuc 0 -ℤ z))

@@ -1,9 +1,9 @@
--- `output::after` meets its contract.
+-- `wording::after` meets its contract.
 use borrow.Author.Needs.{needs}
 use borrow.Author.Tests.{eq-eqb, ne-eqb}
 use Rattle.output.specs.Output.{mark}
-use Rattle.output.proofs.after.Statement.{statement}
-use Rattle.output.proofs.after.Tie as tie
+use Rattle.wording.proofs.after.Statement.{statement}
+use Rattle.wording.proofs.after.Tie as tie
 
 pub after-spec : {M : Type 1} → statement M
 after-spec =

@@ -1,4 +1,4 @@
--- `output::put_sign` meets its contract.
+-- `wording::put_sign` meets its contract.
 use mathlib.Core.Path.{_≡_, ap, _∙_}
 use native.Mathlib.Omega.{arith}
 use borrow.Author.Needs.{needs}
@@ -8,10 +8,10 @@ use lib.ListN.{length, getD, drop}
 use mir.Syntax.{w64}
 use Rattle.rule.proofs.Signed.{read}
 use Rattle.notation.specs.Printing.{whole}
 use Rattle.output.specs.Output.{mark, sign}
-use Rattle.output.proofs.Filling.{first-left, number-sign, plain-sign}
-use Rattle.output.proofs.put_sign.Statement.{statement}
-use Rattle.output.proofs.put_sign.Tie as tie
+use Rattle.wording.proofs.Filling.{first-left, number-sign, plain-sign}
+use Rattle.wording.proofs.put_sign.Statement.{statement}
+use Rattle.wording.proofs.put_sign.Tie as tie
 
 filled-by : (c : tie.Start) → c .args .b ≡ mark → sign (c .args .b) (drop (c .args .k) (now (c .args .numbers))) ≡ whole (getD (now (c .args .numbers)) (c .args .k) (pos 0))
 filled-by c e =

@@ -1,0 +1,2 @@
+-- One outcome for each function.
+pub mod OneOutcome

@@ -10,6 +10,17 @@ typedef ndz_answer (*next_call)(ndz_state, int64_t *, size_t, int32_t);
 typedef ndz_answer (*late_call)(ndz_state, int64_t *, size_t, uint32_t, int32_t);
 typedef ndz_replayed (*replay_call)(ndz_settings, const uint8_t *, size_t, int64_t *, size_t);
 
+/* bench/against compiles this over earlier headers too. Those up to version 0.8 know no edition, and what they do is the first. */
+static ndz_settings in_edition(uint64_t edition, ndz_settings settings)
+{
+#ifdef NDZ_SECOND_EDITION
+    settings.edition = edition;
+#else
+    (void)edition;
+#endif
+    return settings;
+}
+
 static const ndz_settings most = {.kind = NDZ_LATE, .size = NDZ_MOST_STEPS, .gaps = NDZ_MOST_GAPS};
 
 enum { GROWN = 391, BURST = 64 }; /* the ticks of each stretch in the full table, and the readings of a burst over it */
@@ -18,14 +29,15 @@ static int64_t library_room[NUMBERS], plain_room[NUMBERS], full_room[NUMBERS];
 static ndz_state full;
 
 /* Late readings grow `many` stretches, from the one numbered `first` on, by one reading of each in turn: each stretch by its ticks from `from` on, with the
- * values of the numbers from `value` on; far from its stretch's reading before, by turns below and above all others, where `apart` is set. */
+ * values of the numbers from `value` on; far from its stretch's reading before, by turns below and above all others, where `apart` is set; all the same where
+ * `flat` is. */
 typedef struct {
     uint32_t first, many, from, value;
-    int apart;
+    int apart, flat;
 } stretches;
 
 /* All of them: 4,096 ticks apart at least. */
-static const stretches all = {.many = NDZ_MOST_GAPS};
+static const stretches all = {.many = NDZ_MOST_GAPS}, all_flat = {.many = NDZ_MOST_GAPS, .flat = 1};
 
 static uint32_t tick_of(const stretches *grown, uint32_t turn)
 {
@@ -35,14 +47,16 @@ static uint32_t tick_of(const stretches *grown, uint32_t turn)
 static int32_t value_of(const stretches *grown, uint32_t turn)
 {
     int32_t away = turn / grown->many % 2 ? 30000 : -30000;
+    if (grown->flat)
+        return FLAT;
     return value_at(grown->value + turn) + (grown->apart ? away : 0);
 }
 
-static double feed_next(next_call call, ndz_state *state, int64_t *room, size_t numbers, uint32_t readings)
+static double feed_next(next_call call, ndz_state *state, int64_t *room, size_t numbers, int flat, uint32_t readings)
 {
     double begun = now();
     for (uint32_t i = 0; i < readings; i++) {
-        ndz_answer a = call(*state, room, numbers, value_at(i));
+        ndz_answer a = call(*state, room, numbers, flat ? FLAT : value_at(i));
         if (a.refusal)
             fail("a reading is refused");
         *state = a.state;
@@ -140,8 +154,11 @@ static void line(const char *what, uint32_t turns, double library, double plain)
     fflush(stdout);
 }
 
-static void readings(ndz_settings settings, uint32_t count, int unchecked)
+/* Of the wave, or of a flat pin. */
+static void readings(uint64_t edition, ndz_settings settings, int flat, uint32_t count, int unchecked)
 {
+    settings = in_edition(edition, settings);
+    const stretches *grown = flat ? &all_flat : &all;
     size_t numbers = settings.by ? NDZ_NUMBERS_BASE(settings.kind, settings.size, settings.gaps) : NDZ_NUMBERS(settings.kind, settings.size, settings.gaps);
     int late = settings.kind == NDZ_LATE;
     ndz_state library = ndz_open(settings, library_room, numbers).state;
@@ -149,22 +166,23 @@ static void readings(ndz_settings settings, uint32_t count, int unchecked)
     double of_library, of_plain;
     plain_checks = 1;
     if (late) {
-        of_library = feed_late(ndz_late, &library, library_room, numbers, &all, count);
-        of_plain = feed_late(plain_late, &plain, plain_room, numbers, &all, count);
+        of_library = feed_late(ndz_late, &library, library_room, numbers, grown, count);
+        of_plain = feed_late(plain_late, &plain, plain_room, numbers, grown, count);
     } else {
-        of_library = feed_next(ndz_next, &library, library_room, numbers, count);
-        of_plain = feed_next(plain_next, &plain, plain_room, numbers, count);
+        of_library = feed_next(ndz_next, &library, library_room, numbers, flat, count);
+        of_plain = feed_next(plain_next, &plain, plain_room, numbers, flat, count);
     }
     same(&library, &plain, numbers);
     char what[80];
-    snprintf(what, sizeof what, "%s, %s = %" PRIu64 "%s", late ? "late" : "next", settings.by ? "C" : "B", settings.size, late ? ", K = 256" : "");
+    snprintf(what, sizeof what, "%s, %s = %" PRIu64 "%s%s%s", late ? "late" : "next", settings.by ? "C" : "B", settings.size, late ? ", K = 256" : "",
+             flat ? ", flat" : "", edition == 1 ? "" : ", edition 2");
     line(what, count, of_library, of_plain);
     if (!unchecked)
         return;
     double check = check_only(&library, library_room, numbers, count);
     plain = plain_open(settings, plain_room, numbers).state;
     plain_checks = 0;
-    of_plain = late ? feed_late(plain_late, &plain, plain_room, numbers, &all, count) : feed_next(plain_next, &plain, plain_room, numbers, count);
+    of_plain = late ? feed_late(plain_late, &plain, plain_room, numbers, grown, count) : feed_next(plain_next, &plain, plain_room, numbers, flat, count);
     same(&library, &plain, numbers);
     snprintf(what, sizeof what, "the same without the check");
     line(what, count, of_library - check, of_plain);
@@ -173,7 +191,7 @@ static void readings(ndz_settings settings, uint32_t count, int unchecked)
 /* The most buckets that there can be, of 100,096 readings. */
 static void make_full(void)
 {
-    full = ndz_open(most, full_room, NUMBERS).state;
+    full = ndz_open(in_edition(1, most), full_room, NUMBERS).state;
     feed_late(ndz_late, &full, full_room, NUMBERS, &all, GROWN * all.many);
     if (full.used != NDZ_MOST_BUCKETS)
         fail("the table is not full");
@@ -206,8 +224,9 @@ static void same_replayed(const ndz_replayed *a, const ndz_replayed *b, size_t n
     same(&a->state, &b->state, numbers);
 }
 
-static void recordings(ndz_settings settings, uint32_t frames)
+static void recordings(uint64_t edition, ndz_settings settings, uint32_t frames)
 {
+    settings = in_edition(edition, settings);
     size_t numbers = NDZ_NUMBERS(NDZ_LATE, settings.size, settings.gaps);
     uint8_t *recording = malloc((size_t)NDZ_FRAME_BYTES * frames + 1);
     if (recording == NULL)
@@ -220,7 +239,8 @@ static void recordings(ndz_settings settings, uint32_t frames)
         fail("a replay");
     same_replayed(&library, &plain, numbers);
     char what[80];
-    snprintf(what, sizeof what, "replay of %" PRIu32 " frames, B = %" PRIu64 ", K = %" PRIu64, frames, settings.size, settings.gaps);
+    snprintf(what, sizeof what, "replay of %" PRIu32 " frames, B = %" PRIu64 ", K = %" PRIu64 "%s", frames, settings.size, settings.gaps,
+             edition == 1 ? "" : ", edition 2");
     line(what, frames, of_library, of_plain);
     whole = library;
     static int64_t replayed_room[NUMBERS];
@@ -262,12 +282,12 @@ static void files(uint32_t turns)
     size_t bytes = NDZ_RECORD_BYTES * state.used;
     begun = now();
     for (uint32_t i = 0; i < turns; i++)
-        if (ndz_load(most, mine, bytes, library_room, numbers).refusal)
+        if (ndz_load(in_edition(1, most), mine, bytes, library_room, numbers).refusal)
             fail("load");
     of_library = now() - begun;
     begun = now();
     for (uint32_t i = 0; i < turns; i++)
-        if (plain_load(most, mine, bytes, plain_room, numbers).refusal)
+        if (plain_load(in_edition(1, most), mine, bytes, plain_room, numbers).refusal)
             fail("plain load");
     of_plain = now() - begun;
     if (memcmp(library_room, plain_room, sizeof plain_room) != 0)
@@ -280,8 +300,10 @@ int main(int argc, char **argv)
 {
     uint32_t count = argc > 1 ? (uint32_t)strtoul(argv[1], NULL, 10) : 2000000;
     printf("| call | library, ns | plain C, ns | ratio |\n|---|---|---|---|\n");
-    readings((ndz_settings){.kind = NDZ_IN_ORDER, .size = 32}, count, 1);
-    readings(most, count, 1);
+    const ndz_settings next = {.kind = NDZ_IN_ORDER, .size = 32}, late = {.kind = NDZ_LATE, .size = 32, .gaps = NDZ_MOST_GAPS};
+    const ndz_settings replayed = {.kind = NDZ_LATE, .size = 32, .gaps = 16};
+    readings(1, next, 0, count, 1);
+    readings(1, most, 0, count, 1);
     make_full();
     for (int apart = 0; apart < 2; apart++) {
         bursts("near the start", 0, apart, count / 10);
@@ -290,10 +312,22 @@ int main(int argc, char **argv)
     }
     static const uint64_t sizes[] = {1, 4, 16, 64, 256};
     for (int i = 0; i < 5; i++)
-        readings((ndz_settings){.kind = NDZ_IN_ORDER, .size = sizes[i]}, count / 10, 0);
+        readings(1, (ndz_settings){.kind = NDZ_IN_ORDER, .size = sizes[i]}, 0, count / 10, 0);
     for (uint64_t base = 63; base <= 65; base++)
-        readings((ndz_settings){.kind = NDZ_IN_ORDER, .size = base, .by = NDZ_BY_BASE}, count / 10, 0);
-    recordings((ndz_settings){.kind = NDZ_LATE, .size = 32, .gaps = 16}, count / 2);
+        readings(1, (ndz_settings){.kind = NDZ_IN_ORDER, .size = base, .by = NDZ_BY_BASE}, 0, count / 10, 0);
+    recordings(1, replayed, count / 2);
     files(count / 100 + 1);
+    readings(1, next, 1, count / 10, 0);
+    readings(1, late, 0, count / 10, 0);
+    readings(1, late, 1, count / 10, 0);
+#ifdef NDZ_SECOND_EDITION
+    /* Last, so that the rows before have their places where there is no second edition. */
+    readings(2, next, 0, count, 1);
+    readings(2, most, 0, count / 10, 0);
+    readings(2, next, 1, count / 10, 0);
+    readings(2, late, 0, count / 10, 0);
+    readings(2, late, 1, count / 10, 0);
+    recordings(2, replayed, count / 2);
+#endif
     return 0;
 }

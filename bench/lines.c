@@ -1,5 +1,5 @@
 /* What the listing program does for a trace in order with B = 32, in plain C: one reading a line, and no line that names the steps; many readings are taken at
- * one call. Then the steps. Errors end it. */
+ * one call, in the first edition, which is the listing's. Then the steps. Errors end it. */
 #include "plain_many.h"
 #include <inttypes.h>
 #include <stdio.h>
@@ -36,7 +36,7 @@ static int take(void)
 
 int main(void)
 {
-    state = plain_open((ndz_settings){.kind = NDZ_IN_ORDER, .size = STEPS}, room, NUMBERS).state;
+    state = plain_open((ndz_settings){.kind = NDZ_IN_ORDER, .size = STEPS, .edition = NDZ_FIRST_EDITION}, room, NUMBERS).state;
     for (int byte = next_byte(); byte != EOF; byte = next_byte()) {
         int negative = byte == '-', digits = 0;
         int64_t value = 0;

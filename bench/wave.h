@@ -1,4 +1,4 @@
-/* What the timing programs share: the clock, the end of a run that differs, and the wave. */
+/* What the timing programs share: the clock, the end of a run that differs, the wave and the flat pin. */
 #ifndef WAVE_H
 #define WAVE_H
 
@@ -28,5 +28,8 @@ static inline int32_t value_at(uint32_t tick)
         return (int32_t)(7400 + noise);
     return (int32_t)((tick % 1000 < 500 ? 60 : 12050) + noise);
 }
+
+/* Every reading of a flat pin: all spreads are equal. */
+enum { FLAT = 12050 };
 
 #endif

@@ -42,7 +42,7 @@ static int refused(const char *call, uint32_t refusal)
 int main(void)
 {
     /* A replay is late, whatever kind is named. */
-    const ndz_settings settings = {NDZ_LATE, BASE, GAPS, NDZ_BY_BASE};
+    const ndz_settings settings = {NDZ_LATE, BASE, GAPS, NDZ_BY_BASE, NDZ_FIRST_EDITION};
     uint8_t recording[NDZ_FRAME_BYTES * RECORDS];
     int64_t room[NUMBERS];
     ndz_bucket row[BUCKETS];

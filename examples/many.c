@@ -1,4 +1,5 @@
-/* Hands over many readings at one call, in order and late, and goes on after the one that is refused. Built and run by tools/example. */
+/* Hands over many readings at one call, in order and late, goes on after the one that is refused, and keeps a flat pin in both editions. Built and run by
+ * tools/example. */
 #include "ndezulangi.h"
 #include <inttypes.h>
 #include <stdio.h>
@@ -37,8 +38,10 @@ int main(void)
     static const uint32_t ticks[] = {0, 1, 2, 3, 8, 9, 12, 11, 10};
     static const int32_t values[] = {60, 55, 62, 58, 7390, 7410, 12049, 12051, 12047};
     static const uint32_t held_back[] = {4, 5, 6, 7};
+    /* A pin on which nothing happens. */
+    static const int32_t flat[] = {12050, 12050, 12050, 12050, 12050, 12050, 12050, 12050};
 
-    ndz_settings settings = {NDZ_IN_ORDER, BASE, 0, NDZ_BY_BASE};
+    ndz_settings settings = {NDZ_IN_ORDER, BASE, 0, NDZ_BY_BASE, NDZ_FIRST_EDITION};
     int64_t room[NUMBERS];
     ndz_state state;
 
@@ -62,5 +65,15 @@ int main(void)
 
     /* A tick that has its reading is refused, and leaves the trace as it is. */
     fed(&state, ndz_late_many(state, room, NUMBERS, ticks, COUNT(ticks), values, COUNT(values)));
+
+    /* Of a flat pin any two neighbours may become one step. The first edition takes those that start first, so that one step swallows the left side; the
+     * second those that are the fewest ticks together. */
+    settings.kind = NDZ_IN_ORDER;
+    for (settings.edition = NDZ_FIRST_EDITION; settings.edition <= NDZ_SECOND_EDITION; settings.edition++) {
+        if (ndz_take(&state, ndz_open(settings, room, NUMBERS)) != 0)
+            return 1;
+        fed(&state, ndz_next_many(state, room, NUMBERS, flat, COUNT(flat)));
+        print_row(state, room);
+    }
     return done == COUNT(ticks) ? 0 : 1;
 }

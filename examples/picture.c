@@ -22,7 +22,7 @@ int main(void)
     /* Shown as typed, whatever stands in it; the 0 behind it is not lent. */
     static const char caption[] = "relay <30> & \"ground\"";
     static uint8_t text[NDZ_PICTURE_BYTES];
-    const ndz_settings settings = {NDZ_LATE, STEPS, GAPS, NDZ_BY_STEPS};
+    const ndz_settings settings = {NDZ_LATE, STEPS, GAPS, NDZ_BY_STEPS, NDZ_FIRST_EDITION};
     int64_t room[NUMBERS];
     ndz_state state;
 

@@ -19,7 +19,7 @@ int main(void)
 {
     /* A relay's coil voltage in millivolts, with the two-reading drop that a good one shows. */
     static const int32_t relay[] = {12040, 12050, 12045, 12050, 12048, 7390, 7410, 12047, 12051, 12049, 60, 55, 62, 58};
-    const ndz_settings settings = {NDZ_IN_ORDER, STEPS, 0, NDZ_BY_STEPS};
+    const ndz_settings settings = {NDZ_IN_ORDER, STEPS, 0, NDZ_BY_STEPS, NDZ_FIRST_EDITION};
     int64_t room[NUMBERS], other_room[NUMBERS];
     ndz_bucket row[BUCKETS];
     uint8_t file[NDZ_RECORD_BYTES * BUCKETS];

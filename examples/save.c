@@ -1,7 +1,8 @@
 /* save: reads a trace's lines from standard input, `steps B`, then `late K` where readings name their ticks, then a reading a line, and writes the saved
- * form of its buckets to standard output. Nothing is opened by default: the first line must name the steps. Numbers are read as sscanf reads them, which
- * takes more than the listing program does. The exit status is 0, or 1 where something is refused or cannot be read or written: standard error then says
- * what, and nothing is written. Run by tools/rebuild. */
+ * form of its buckets to standard output. Nothing is opened by default: the first line must name the steps. The edition is the first, whatever the lines
+ * are: the saved pages of a catalogue stand beside its listings and pictures, whose programs have that edition, and those that are stored were made before
+ * there was another. Numbers are read as sscanf reads them, which takes more than the listing program does. The exit status is 0, or 1 where something is
+ * refused or cannot be read or written: standard error then says what, and nothing is written. Run by tools/rebuild. */
 #include "ndezulangi.h"
 #include <inttypes.h>
 #include <stdio.h>
@@ -19,7 +20,7 @@ int main(void)
     static int64_t room[NUMBERS];
     static uint8_t bytes[NDZ_RECORD_BYTES * NDZ_MOST_BUCKETS];
     char line[80], behind;
-    ndz_settings settings = {NDZ_IN_ORDER, 0, 0, NDZ_BY_STEPS};
+    ndz_settings settings = {NDZ_IN_ORDER, 0, 0, NDZ_BY_STEPS, NDZ_FIRST_EDITION};
     ndz_state state;
     if (fgets(line, sizeof line, stdin) == NULL || sscanf(line, "steps %" SCNu64 " %c", &settings.size, &behind) != 1)
         return failed("the first line", "names no steps");

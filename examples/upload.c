@@ -11,8 +11,8 @@
 #define NUMBERS NDZ_NUMBERS_BASE(NDZ_IN_ORDER, BUCKETS, 0)
 #define FILE_BYTES (NDZ_RECORD_BYTES * BUCKETS)
 
-/* A file does not say what it was saved with: whoever loads it names the same settings. */
-static const ndz_settings settings = {NDZ_IN_ORDER, BUCKETS, 0, NDZ_BY_BASE};
+/* A file does not say what it was saved with: whoever loads it names the same settings, the edition among them. */
+static const ndz_settings settings = {NDZ_IN_ORDER, BUCKETS, 0, NDZ_BY_BASE, NDZ_FIRST_EDITION};
 
 static int failed(const char *where, const char *why)
 {

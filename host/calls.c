@@ -26,9 +26,9 @@ static size_t bytes_drawn; /* by the last picture */
 
 /* ---- the numbers of the command at hand */
 
-enum name { KIND, BASE, GAPS, USED, RUNS, READINGS, ACCEPTED, REFUSED, MERGES, LENT, PLACE, LENGTH, AT, FROM, TO, START, COUNT, LEAST, LARGEST, TICK, VALUE, FIRST, LAST, BAR, SIZE, BY, COUNTER, TICKS, VALUES, LETTERS, NAMES };
+enum name { KIND, BASE, GAPS, USED, RUNS, READINGS, EDITION, ACCEPTED, REFUSED, MERGES, LENT, PLACE, LENGTH, AT, FROM, TO, START, COUNT, LEAST, LARGEST, TICK, VALUE, FIRST, LAST, BAR, SIZE, BY, COUNTER, TICKS, VALUES, LETTERS, NAMES };
 
-static const char *const names[NAMES] = {"kind", "base", "gaps", "used", "runs", "readings", "accepted", "refused", "merges", "numbers", "places",
+static const char *const names[NAMES] = {"kind", "base", "gaps", "used", "runs", "readings", "edition", "accepted", "refused", "merges", "numbers", "places",
     "bytes", "at", "from", "to", "start", "count", "least", "largest", "tick", "value", "first", "last", "bar", "size", "by", "counter", "ticks", "values", "letters"};
 
 static uint64_t number[NAMES];
@@ -138,6 +138,7 @@ static void show_state(ndz_state of)
     unsigned_number(of.used);
     unsigned_number(of.runs);
     unsigned_number(of.readings);
+    unsigned_number(of.edition);
 }
 
 static void refused(uint32_t refusal, uint64_t place)
@@ -161,7 +162,7 @@ static const int64_t *lend_const_room(void)
 
 static ndz_settings settings(void)
 {
-    return (ndz_settings){.kind = number[KIND], .size = number[SIZE], .gaps = number[GAPS], .by = number[BY]};
+    return (ndz_settings){.kind = number[KIND], .size = number[SIZE], .gaps = number[GAPS], .by = number[BY], .edition = number[EDITION]};
 }
 
 static void answered(ndz_answer answer)
@@ -412,7 +413,7 @@ static void obey_print(void)
 
 static void obey_state(void)
 {
-    state = (ndz_state){number[KIND], number[BASE], number[GAPS], number[USED], number[RUNS], number[READINGS]};
+    state = (ndz_state){number[KIND], number[BASE], number[GAPS], number[USED], number[RUNS], number[READINGS], number[EDITION]};
 }
 
 static void obey_tally(void)
@@ -567,7 +568,7 @@ static void read_number(char *pair)
 /* What a name that is not given stands for. */
 static void begin(void)
 {
-    const uint64_t at_hand[] = {state.kind, state.base, state.gaps, state.used, state.runs, state.readings, tally.accepted, tally.refused, tally.merges};
+    const uint64_t at_hand[] = {state.kind, state.base, state.gaps, state.used, state.runs, state.readings, state.edition, tally.accepted, tally.refused, tally.merges};
     memset(number, 0, sizeof number);
     memcpy(number, at_hand, sizeof at_hand);
 }

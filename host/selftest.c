@@ -178,7 +178,7 @@ static int tried(callee *called, replayer *replaying, feeder *feeding, drawer *d
         obey(room);
         obey(file);
         for (int turn = 0; turn < 64; turn++) {
-            char saved[] = "save bytes=33", replayed[] = "replay size=1 gaps=1", fed[] = "latemany from=9 ticks=5 values=6";
+            char saved[] = "save bytes=33", replayed[] = "replay size=1 gaps=1 edition=1", fed[] = "latemany from=9 ticks=5 values=6";
             char drawn[] = "picture from=9 letters=5 bytes=33";
             obey(called != NULL ? saved : replaying != NULL ? replayed : feeding != NULL ? fed : drawn);
         }

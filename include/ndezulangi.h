@@ -39,7 +39,7 @@ extern "C" {
 #endif
 
 #define NDZ_VERSION_MAJOR 0
-#define NDZ_VERSION_MINOR 8
+#define NDZ_VERSION_MINOR 9
 
 /* Kinds. Any other number than 0 is taken as late, and an accepted call hands it back as 1. */
 #define NDZ_IN_ORDER 0 /* the next reading takes the next tick, from 0 */
@@ -48,9 +48,21 @@ extern "C" {
 /* What `size` names: B, which stands for C = 2B, or C, the base limit, itself. Any other number than 0 is taken as by base,
  * and the state that is handed back has C alone. In a trace that was opened empty or replayed, also where it was saved and
  * loaded again with its settings: if every reading is within E of some curve of at most (C + 1) / 2 flat steps, rounded
- * down, every reading is within E of the steps kept. By B these are curves of at most B flat steps. */
+ * down, every reading is within E of the steps kept. By B these are curves of at most B flat steps. Both editions keep it. */
 #define NDZ_BY_STEPS 0 /* B, 1 to 256: at most 2B steps in order */
 #define NDZ_BY_BASE 1  /* C, 1 to 512: at most C steps in order */
+
+/* Editions: which two steps become one where a reading would make more steps than the limit. They are neighbours whose union
+ * has the smallest spread; among equal spreads, in the first edition, the two that start first, in the second those whose union
+ * has the fewest ticks, and among these the two that start first. Of the readings 5, 5, 5, 5 with C = 2 the first edition keeps
+ * a step of three ticks and one of one, the second two steps of two. All versions up to 0.8 have the first edition alone; the
+ * listing program and the picture program have it still, and published pages are made anew with it.
+ * The edition is named wherever a trace is opened, loaded or replayed, and the state keeps it. None is taken by default: any
+ * other number than these two is refused by NDZ_EDITION. A file does not say its edition: who kept files loads them with the
+ * one that they were saved under, the first for all files up to version 0.8. With the other a file is accepted too and has the
+ * same buckets, but goes on by the other edition. */
+#define NDZ_FIRST_EDITION 1
+#define NDZ_SECOND_EDITION 2
 
 /* Limits. A late trace has at most C steps and one for each of its runs. No call opens by default: NDZ_DEFAULT_STEPS is the B
  * of the listing program and of the picture program where no line names one. Up to version 0.7 it was 32, and a file does not
@@ -87,18 +99,23 @@ extern "C" {
 #define NDZ_ABSENT 12
 #define NDZ_SHORT 13
 #define NDZ_CAPTION 15
+#define NDZ_EDITION 16
 
 /* What a trace is opened, loaded or replayed with. `size` is B or C, as `by` says; K, the most unbroken runs of a late
- * trace, is `gaps`, which is ignored in order. A replay is late, and does not look at `kind`. */
+ * trace, is `gaps`, which is ignored in order. A replay is late, and does not look at `kind`. Settings that were written for
+ * version 0.8 or before name no edition: what is left out is 0 and refused by NDZ_EDITION, and NDZ_FIRST_EDITION is what they
+ * meant. */
 typedef struct {
     uint64_t kind;
     uint64_t size;
     uint64_t gaps;
-    uint64_t by; /* NDZ_BY_STEPS or NDZ_BY_BASE; set it, or begin with = {0} */
+    uint64_t by;      /* NDZ_BY_STEPS or NDZ_BY_BASE; set it, or begin with = {0} */
+    uint64_t edition; /* NDZ_FIRST_EDITION or NDZ_SECOND_EDITION; set it: 0 is neither */
 } ndz_settings;
 
 /* A trace but for its room. Where a state of version 0.3 was kept or filled by position, B stands in the place of `base`:
- * it must be doubled. */
+ * it must be doubled. Where one of version 0.8 or before was, it lacks `edition`: with 0 there it is refused by NDZ_UNSOUND,
+ * and goes on as it would have with NDZ_FIRST_EDITION put there. A state of zeros stays refused. */
 typedef struct {
     uint64_t kind;
     uint64_t base;     /* C, which is 2B where B was named */
@@ -106,6 +123,7 @@ typedef struct {
     uint64_t used;     /* slots in use: the buckets */
     uint64_t runs;     /* longest stretches of arrived ticks */
     uint64_t readings; /* accepted so far */
+    uint64_t edition;  /* as it was named at the opening */
 } ndz_state;
 
 /* Ticks from `start` on, `count` of them, and the least and largest reading among them. */
@@ -191,7 +209,7 @@ typedef struct {
 } ndz_worst_error;
 
 /* An empty trace; the needed slots become zeros. In order the given K is ignored and kept as 0.
- * Refuses: NDZ_STEPS, NDZ_GAPS, NDZ_ROOM. */
+ * Refuses: NDZ_EDITION, NDZ_STEPS, NDZ_GAPS, NDZ_ROOM. */
 ndz_answer ndz_open(ndz_settings settings, int64_t *room, size_t numbers);
 
 /* The next reading of a trace in order: it takes the tick after the last one.
@@ -261,8 +279,9 @@ ndz_drawn ndz_picture(ndz_state state, const int64_t *room, size_t numbers, cons
                       uint8_t *out, size_t out_bytes);
 
 /* The trace of saved bytes. With the settings that it was saved with, it is the same trace; B and C = 2B are the same here,
- * whichever it was opened by.
- * Refuses: NDZ_STEPS, NDZ_GAPS, NDZ_ROOM, NDZ_LENGTH, NDZ_RECORD, NDZ_RUNS, NDZ_OVERFULL. */
+ * whichever it was opened by. The edition is one of the settings, and not in the file: of a file saved up to version 0.8 it is
+ * NDZ_FIRST_EDITION.
+ * Refuses: NDZ_EDITION, NDZ_STEPS, NDZ_GAPS, NDZ_ROOM, NDZ_LENGTH, NDZ_RECORD, NDZ_RUNS, NDZ_OVERFULL. */
 ndz_answer ndz_load(ndz_settings settings, const uint8_t *file, size_t bytes, int64_t *room, size_t numbers);
 
 /* Opens a late trace, whatever `kind` says, and replays a recording of the handheld logger into it: records of 6 bytes
@@ -275,7 +294,7 @@ ndz_answer ndz_load(ndz_settings settings, const uint8_t *file, size_t bytes, in
  * the true ticks, shifted so that the first is 32768. A recording of no bytes makes an empty trace. No tally is touched.
  * The trace goes on with ndz_late, by ticks of which the first record's is 32768, and saves and loads as any late trace.
  * Where the call is refused nothing is written: go on with `state` only where `refusal` is 0.
- * The room is that of NDZ_LATE. Refuses: NDZ_STEPS, NDZ_GAPS, NDZ_ROOM, NDZ_LENGTH (`bytes` is not a multiple of
+ * The room is that of NDZ_LATE. Refuses: NDZ_EDITION, NDZ_STEPS, NDZ_GAPS, NDZ_ROOM, NDZ_LENGTH (`bytes` is not a multiple of
  * NDZ_FRAME_BYTES). */
 ndz_replayed ndz_replay(ndz_settings settings, const uint8_t *recording, size_t bytes, int64_t *room, size_t numbers);
 
@@ -306,6 +325,7 @@ static inline const char *ndz_refusal_text(uint32_t refusal)
     case NDZ_ABSENT: return "the tick has no reading";
     case NDZ_SHORT: return "the output is too short";
     case NDZ_CAPTION: return "the caption is longer than 200 bytes, or has a byte below 0x20 or above 0x7E";
+    case NDZ_EDITION: return "the edition is neither 1 nor 2";
     default: return "no refusal has this number";
     }
 }

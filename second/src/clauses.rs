@@ -3,7 +3,7 @@
 use crate::calls::{State, SLOT};
 use crate::rule::{Kind, TICKS};
 
-pub const CLAUSES: [&str; 10] = [
+pub const CLAUSES: [&str; 11] = [
     "base in bounds",
     "gaps in bounds",
     "runs allowed",
@@ -14,7 +14,11 @@ pub const CLAUSES: [&str; 10] = [
     "runs true",
     "readings true",
     "unused slots zero",
+    "edition 1 or 2",
 ];
+
+/// The place of the edition among them.
+pub const EDITION_CLAUSE: usize = 10;
 
 /// Whether each clause is broken. Numbers that the room does not have count as zeros.
 pub fn broken(state: State, room: &[i64]) -> [bool; CLAUSES.len()] {
@@ -44,6 +48,7 @@ pub fn broken(state: State, room: &[i64]) -> [bool; CLAUSES.len()] {
         wide(state.runs) != table.runs,
         wide(state.readings) != table.readings,
         unused.iter().any(|&number| number != 0),
+        state.edition != 1 && state.edition != 2,
     ]
 }
 

@@ -4,13 +4,13 @@
 //! state at hand or in the tally, any other 0: so are `size` and `by`, which no state has. Where a field has fewer bits, the lowest of the number are its. A line that begins
 //! with `#` is a heading for what follows it, and is no command. Words and names have at most eight letters.
 //!
-//! A script has a state at hand, of six fields, a room of 8,192 numbers of which the first so many are lent, a file of 655,360 bytes of which the
+//! A script has a state at hand, of seven fields, a room of 8,192 numbers of which the first so many are lent, a file of 655,360 bytes of which the
 //! first so many are lent, a row of 4,096 buckets, an output of 65,536 bytes, a list of 4,096 ticks and 4,096 values and a tally, all 0 at first.
 //! Where a command names more of them than there is, all there is is meant.
 //!
 //! | Word | Names | What it does |
 //! |---|---|---|
-//! | `open` | `kind size gaps by` | opens a trace with these settings: `size` is B where `by` is 0, the base limit C where it is any other number |
+//! | `open` | `kind size gaps by edition` | opens a trace with these settings: `size` is B where `by` is 0, the base limit C where it is any other number |
 //! | `next` | `value` | the next reading |
 //! | `late` | `tick value` | a late reading |
 //! | `nexttold`, `latetold` | as `next`, `late` | the same with the tally lent |
@@ -22,12 +22,12 @@
 //! | `row` | `places` | so many buckets of the row are lent |
 //! | `save` | `bytes` | so many bytes of the output are lent |
 //! | `picture` | `from letters bytes` | so many bytes of the file are lent as the caption, from an index on, and so many bytes of the output |
-//! | `load` | `kind size gaps by` | loads the lent file with these settings, `size` and `by` as in `open` |
-//! | `replay` | `size gaps by` | opens a late trace, `size` and `by` as in `open`, and replays the lent file into it, a recording of the logger |
+//! | `load` | `kind size gaps by edition` | loads the lent file with these settings, `size` and `by` as in `open` |
+//! | `replay` | `size gaps by edition` | opens a late trace, `size` and `by` as in `open`, and replays the lent file into it, a recording of the logger |
 //! | `level`, `error` | `start count least largest` | of that bucket |
 //! | `show` | | no call: the state at hand and every lent number |
 //! | `print` | | no call: of the output the bytes that the last picture wrote, as they are, none where it was refused |
-//! | `state` | `kind base gaps used runs readings` | makes these the state at hand |
+//! | `state` | `kind base gaps used runs readings edition` | makes these the state at hand |
 //! | `tally` | `accepted refused merges` | makes these the tally |
 //! | `room` | `numbers` | so many numbers of the room are lent from now on |
 //! | `fill` | `value` | every lent number of the room is this |
@@ -46,7 +46,7 @@
 //! state leaves it at hand, and so do many readings of which one is accepted; a refused one leaves the state at hand as it was.
 //!
 //! The words from `open` to `show` write one line each, of the word and numbers one space apart. First what is answered, whole: a refusal, 0 where
-//! the call was accepted, and its place; then the six fields of a state (of a refused reading those that were given, of many readings those after
+//! the call was accepted, and its place; then the seven fields of a state (of a refused reading those that were given, of many readings those after
 //! the accepted ones, of a refused open, load or replay zeros), behind those of a replay how many records were accepted and how many refused, behind
 //! those of many readings how many were accepted; or a lookup's level, error, least and largest, or 1 with the index and the start of the bucket that
 //! is over, three zeros where none is, or the worst error, or how many buckets or bytes of a picture were written, each 0 where refused. Then what was
@@ -129,6 +129,7 @@ named! { Name:
     Used "used",
     Runs "runs",
     Readings "readings",
+    Edition "edition",
     Accepted "accepted",
     Refused "refused",
     Merges "merges",

@@ -3,8 +3,9 @@
 use crate::calls::{
     needed_numbers, Size, State, Tally, LAST_CALL_REFUSAL, LENGTH, RECORD, RECORD_BYTES, UNSOUND,
 };
-use crate::clauses::{self, CLAUSES};
+use crate::clauses::{self, CLAUSES, EDITION_CLAUSE};
 use crate::command::{Command, Name, Word};
+use crate::editions::{self, Watch};
 use crate::feeds::{self, Feed};
 use crate::pictures::{self, Drawing, Drawn};
 use crate::recordings;
@@ -25,6 +26,9 @@ const ALONE: u64 = 200;
 /// So many searches of each sort, at the least.
 const OF_EACH_SORT: u64 = 100;
 
+/// Settings of which 32 bits do not hold all that may be named.
+const WIDE: [Name; 5] = [Name::Kind, Name::Size, Name::Gaps, Name::By, Name::Edition];
+
 /// Numbers other than 0 that a replay leaves.
 const BEHIND: &str = "replay with numbers behind the needed slots";
 const LEFT_BY_7: &str = "replay refused 7 over numbers";
@@ -39,6 +43,7 @@ pub struct Counts {
     state: State,
     opened: Option<Size>,
     drawn: Option<Drawn>,
+    watch: Watch,
 }
 
 impl Counts {
@@ -46,12 +51,17 @@ impl Counts {
         self.heading = line.to_string();
     }
 
+    /// One command, and the session as it finds it.
+    pub fn before(&mut self, session: &Session, command: &Command) {
+        self.watch.before(session, command);
+    }
+
     /// One command, and the session as it left it.
     pub fn after(&mut self, session: &Session, command: &Command, answer: &Answer) {
         let before = std::mem::replace(&mut self.tally, session.tally);
         let state = std::mem::replace(&mut self.state, session.state);
         if !command.word.is_call() {
-            return;
+            return self.watch.changed(command.word);
         }
         if !self.heading.is_empty() {
             *self.met.entry(self.heading.clone()).or_default() += 1;
@@ -85,7 +95,7 @@ impl Counts {
             Word::Picture => self.drawn(session, command, answer),
             _ => {}
         }
-        self.sized(session, command, state, number);
+        self.told_apart(session, command, state, answer);
         if session.lent > MOST_NUMBERS {
             self.count("room above 3076 numbers");
         }
@@ -96,6 +106,9 @@ impl Counts {
         assert_eq!(number == UNSOUND, broken.contains(&true), "{command:?}");
         if let Some(clause) = clauses::alone(&broken) {
             self.alone[clause] += 1;
+            if clause == EDITION_CLAUSE {
+                self.count(&editions::for_the_edition_alone(command.word));
+            }
         }
     }
 
@@ -103,8 +116,9 @@ impl Counts {
         *self.met.entry(what.to_string()).or_default() += 1;
     }
 
-    /// By what B and C are told apart.
-    fn sized(&mut self, session: &Session, command: &Command, before: State, refusal: u32) {
+    /// By what B and C are told apart, and by what the editions are.
+    fn told_apart(&mut self, session: &Session, command: &Command, before: State, answer: &Answer) {
+        let refusal = answer.refusal().map_or(0, |refusal| refusal.number);
         let opens = opens(command.word);
         let given = |name| command.given(name).filter(|_| opens);
         let call = Call {
@@ -120,7 +134,8 @@ impl Counts {
             gaps: given(Name::Gaps).unwrap_or(before.gaps),
             opened: self.opened,
         };
-        for sort in sizes::sorts(&call) {
+        let of_editions = self.watch.sorts(session, &call, answer);
+        for sort in sizes::sorts(&call).into_iter().chain(of_editions) {
             *self.met.entry(sort).or_default() += 1;
         }
         if opens && refusal == 0 {
@@ -175,7 +190,7 @@ impl Counts {
 
     /// Settings that 32 bits do not hold.
     fn settings(&mut self, command: &Command) {
-        for name in [Name::Kind, Name::Size, Name::Gaps, Name::By] {
+        for name in WIDE {
             if command.given(name) > Some(u64::from(u32::MAX)) {
                 self.count(&format!("{} wide {}", command.word.text(), name.text()));
             }
@@ -284,7 +299,7 @@ fn answer_name(word: Word, number: u32) -> String {
 
 /// The refusals that each call can give.
 pub const REFUSALS: [(Word, &[u32]); 17] = [
-    (Word::Open, &[1, 2, 3]),
+    (Word::Open, &[1, 2, 3, 16]),
     (Word::Next, &[4, 5, 6]),
     (Word::Late, &[4, 5, 6, 9, 11]),
     (Word::NextTold, &[4, 5, 6]),
@@ -297,8 +312,8 @@ pub const REFUSALS: [(Word, &[u32]); 17] = [
     (Word::Row, &[4, 13]),
     (Word::Save, &[4, 13]),
     (Word::Picture, &[4, 13, 15]),
-    (Word::Load, &[1, 2, 3, 7, 8, 9, 10]),
-    (Word::Replay, &[1, 2, 3, 7]),
+    (Word::Load, &[1, 2, 3, 7, 8, 9, 10, 16]),
+    (Word::Replay, &[1, 2, 3, 7, 16]),
     (Word::Level, &[]),
     (Word::Error, &[]),
 ];
@@ -319,7 +334,7 @@ pub fn wanted() -> Met {
         wanted.insert(sort.to_string(), OF_EACH_SORT);
     }
     for word in [Word::Open, Word::Load, Word::Replay] {
-        for name in [Name::Kind, Name::Size, Name::Gaps, Name::By] {
+        for name in WIDE {
             wanted.insert(format!("{} wide {}", word.text(), name.text()), 100);
         }
     }
@@ -346,6 +361,7 @@ pub fn wanted() -> Met {
         wanted.insert(name.to_string(), times);
     }
     wanted.extend(sizes::wanted());
+    wanted.extend(editions::wanted());
     wanted.extend(recordings::wanted());
     wanted.extend(feeds::wanted());
     wanted.extend(pictures::wanted());

@@ -17,6 +17,12 @@ pub struct Feed<'a> {
 const OF_EACH_SORT: u64 = 100;
 const OF_EACH_LENGTH: u64 = 10;
 const OF_EACH_SIZE: u64 = 50;
+/// Of each length, and of each size, in the second edition.
+const LENGTH_IN_THE_SECOND: u64 = 2;
+const SIZE_IN_THE_SECOND: u64 = 20;
+/// Of as many readings as C goes into the whole list, and in the second edition.
+const OF_EACH_QUOTIENT: u64 = 70;
+const QUOTIENT_IN_THE_SECOND: u64 = 30;
 
 /// Every length up to this one is met, and these.
 const EVERY_LENGTH: usize = 160;
@@ -139,6 +145,7 @@ impl Feed<'_> {
         let word = self.command.word;
         let mut met = Met::new();
         met.insert(readings(word), self.fed.accepted);
+        let second = self.fed.state.edition == 2;
         let mut count = |what: String| *met.entry(what).or_default() += 1;
         for (name, _) in sorts(word).filter(|(_, is)| is(self)) {
             count(of_sort(word, name));
@@ -147,12 +154,19 @@ impl Feed<'_> {
             Some(refusal) if self.fed.accepted > 0 => count(after_some(word, refusal.number)),
             Some(_) => {}
             None => {
+                let mut sorts = Vec::new();
                 if self.asked() <= EVERY_LENGTH || LENGTHS.contains(&self.asked()) {
-                    count(of_length(word, self.asked()));
+                    sorts.push(of_length(word, self.asked()));
                 }
                 if word == Word::NextMany {
-                    self.sized().into_iter().for_each(count);
+                    sorts.extend(self.sized());
                 }
+                let again = sorts
+                    .iter()
+                    .filter(|_| second)
+                    .map(|sort| in_the_second(sort));
+                again.for_each(&mut count);
+                sorts.into_iter().for_each(count);
             }
         }
         met
@@ -162,15 +176,20 @@ impl Feed<'_> {
     fn sized(&self) -> Vec<String> {
         let base = self.fed.state.base;
         let mut sorts = Vec::new();
-        if self.fed.accepted > 0 && SIZES.contains(&base) {
-            if self.before.used + self.fed.accepted > base + 1 {
-                sorts.push(past(base));
-            }
-            let stretch = stretch(base);
-            for (beside, more) in BESIDE {
-                let length = self.fed.accepted.checked_add_signed(-more);
-                let times = (1..=STRETCHES).find(|times| length == Some(times * stretch));
-                sorts.extend(times.map(|times| stretches(times, beside)));
+        if self.fed.accepted == 0 {
+            return sorts;
+        }
+        let sized = SIZES.contains(&base);
+        if sized && self.before.used + self.fed.accepted > base + 1 {
+            sorts.push(past(base));
+        }
+        for (beside, more) in BESIDE {
+            let length = self.fed.accepted.checked_add_signed(-more);
+            let is_times = |times: &u64| sized && length == Some(times * stretch(base));
+            let times = (1..=STRETCHES).find(is_times);
+            sorts.extend(times.map(|times| stretches(times, beside)));
+            if length == Some(quotient(base)) {
+                sorts.push(quotients(beside));
             }
         }
         sorts
@@ -182,6 +201,11 @@ const BESIDE: [(&str, i64); 3] = [("", 0), (", one less", -1), (", one more", 1)
 /// About twice as many readings as there may be buckets.
 pub fn stretch(base: u64) -> u64 {
     (2 * base + STRETCH).min(LONGEST_STRETCH)
+}
+
+/// The times that C goes into the whole list, rounded down.
+pub fn quotient(base: u64) -> u64 {
+    READINGS as u64 / base
 }
 
 fn readings(word: Word) -> String {
@@ -200,12 +224,20 @@ fn after_some(word: Word, refusal: u32) -> String {
     format!("{}: refused {refusal} after some", word.text())
 }
 
+fn in_the_second(sort: &str) -> String {
+    format!("{sort} in edition 2")
+}
+
 fn past(base: u64) -> String {
     format!("nextmany: past the limit at C {base}")
 }
 
 fn stretches(times: u64, beside: &str) -> String {
     format!("nextmany: {times} stretches of readings{beside}")
+}
+
+fn quotients(beside: &str) -> String {
+    format!("nextmany: as many readings as C goes into 4096{beside}")
 }
 
 /// How often each sort must be met.
@@ -216,20 +248,26 @@ pub fn wanted() -> Met {
             wanted.insert(of_sort(word, name), OF_EACH_SORT);
         }
         for length in (0..=EVERY_LENGTH).chain(LENGTHS) {
-            wanted.insert(of_length(word, length), OF_EACH_LENGTH);
+            let length = of_length(word, length);
+            wanted.insert(in_the_second(&length), LENGTH_IN_THE_SECOND);
+            wanted.insert(length, OF_EACH_LENGTH);
         }
     }
     wanted.insert(after_some(Word::NextMany, TICK), OF_EACH_SORT);
     for refusal in [TICK, RUNS, TAKEN] {
         wanted.insert(after_some(Word::LateMany, refusal), OF_EACH_SORT);
     }
-    for base in SIZES {
-        wanted.insert(past(base), OF_EACH_SIZE);
-    }
+    let mut sizes: Vec<String> = SIZES.map(past).to_vec();
     for times in 1..=STRETCHES {
-        for (beside, _) in BESIDE {
-            wanted.insert(stretches(times, beside), OF_EACH_SIZE);
-        }
+        sizes.extend(BESIDE.map(|(beside, _)| stretches(times, beside)));
+    }
+    for size in sizes {
+        wanted.insert(in_the_second(&size), SIZE_IN_THE_SECOND);
+        wanted.insert(size, OF_EACH_SIZE);
+    }
+    for (beside, _) in BESIDE {
+        wanted.insert(in_the_second(&quotients(beside)), QUOTIENT_IN_THE_SECOND);
+        wanted.insert(quotients(beside), OF_EACH_QUOTIENT);
     }
     wanted.insert(readings(Word::NextMany), 300_000);
     wanted.insert(readings(Word::LateMany), 100_000);

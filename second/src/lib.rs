@@ -9,6 +9,7 @@ pub mod classes;
 pub mod clauses;
 pub mod command;
 pub mod counts;
+pub mod editions;
 pub mod feeds;
 pub mod lines;
 pub mod listing;

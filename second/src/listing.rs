@@ -3,21 +3,28 @@
 
 use crate::calls::{self, Refusal, Size, Trace, CAPTION, LINE};
 use crate::picture;
-use crate::rule::{self, Bucket, Kind};
+use crate::rule::{self, Bucket, Edition, Kind};
 use std::io::{self, BufRead, Read, Write};
 
 /// B where no line names it.
 pub const DEFAULT_STEPS: u64 = 64;
+/// No line names the edition: pages are listed, drawn and saved by the first.
+const PUBLISHED: Edition = Edition::First;
 const LINE_BYTES: usize = 64;
 
 /// Reads all of the input, or up to its first refused line, and answers the whole output.
 pub fn list(input: impl BufRead) -> io::Result<Vec<u8>> {
-    shown(input, listed)
+    shown(PUBLISHED, input, listed)
 }
 
 /// The saved form of the buckets that the lines leave, or the first refused line.
 pub fn save(input: impl BufRead) -> io::Result<Vec<u8>> {
-    shown(input, |table| Ok(calls::file_of(table)))
+    save_in(PUBLISHED, input)
+}
+
+/// What would be saved if pages were of this edition.
+pub fn save_in(edition: Edition, input: impl BufRead) -> io::Result<Vec<u8>> {
+    shown(edition, input, |table| Ok(calls::file_of(table)))
 }
 
 /// The listing with a caption as the first line, which is not counted.
@@ -32,15 +39,17 @@ pub fn draw(mut input: impl BufRead) -> io::Result<Vec<u8>> {
     if !picture::is_caption(&caption) {
         return Ok(refused(0, CAPTION));
     }
-    shown(input, |table| Ok(picture::text(table, &caption)))
+    let drawn = |table: &[Bucket]| Ok(picture::text(table, &caption));
+    shown(PUBLISHED, input, drawn)
 }
 
 /// What is written of the buckets that the lines leave, or the first refused line.
 fn shown(
+    edition: Edition,
     mut input: impl BufRead,
     written: impl Fn(&[Bucket]) -> io::Result<Vec<u8>>,
 ) -> io::Result<Vec<u8>> {
-    let mut listing = Listing::new();
+    let mut listing = Listing::new(edition);
     let mut line = Vec::new();
     let mut line_number: u64 = 0;
     loop {
@@ -104,14 +113,17 @@ enum Stage {
 }
 
 struct Listing {
+    edition: u64,
     stage: Stage,
     trace: Trace,
 }
 
 impl Listing {
-    fn new() -> Listing {
-        let trace = Trace::open(Kind::InOrder, Size::Steps(DEFAULT_STEPS), 0);
+    fn new(edition: Edition) -> Listing {
+        let edition = edition.number();
+        let trace = Trace::open(edition, Kind::InOrder, Size::Steps(DEFAULT_STEPS), 0);
         Listing {
+            edition,
             stage: Stage::Beginning,
             trace: trace.expect("the default is in bounds"),
         }
@@ -119,14 +131,16 @@ impl Listing {
 
     fn take(&mut self, line: &[u8]) -> Result<(), Refusal> {
         let late = self.trace.kind() == Kind::Late;
+        let edition = self.edition;
         // Each header opens anew at once, so that a bad setting is refused at its own line.
         self.stage = match line_of(line) {
             Some(Line::Steps(steps)) if self.stage == Stage::Beginning => {
-                self.trace = Trace::open(Kind::InOrder, Size::Steps(steps), 0)?;
+                self.trace = Trace::open(edition, Kind::InOrder, Size::Steps(steps), 0)?;
                 Stage::AfterSteps
             }
             Some(Line::Late(gaps)) if self.stage <= Stage::AfterSteps => {
-                self.trace = Trace::open(Kind::Late, Size::Base(self.trace.base()), gaps)?;
+                let size = Size::Base(self.trace.base());
+                self.trace = Trace::open(edition, Kind::Late, size, gaps)?;
                 Stage::AfterLate
             }
             Some(Line::Value(value)) if !late => {

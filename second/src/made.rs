@@ -10,7 +10,32 @@ pub fn other_kind(random: &mut Random, kind: u64) -> u64 {
     random.choice(&[other, other, 7, 1 << 32, u64::MAX])
 }
 
-/// Another value for a field of the state but its kind.
+/// Numbers that are no edition: next to the two, and such as have one of them in some of their bits.
+pub const NO_EDITIONS: [u64; 14] = [
+    0,
+    3,
+    4,
+    255,
+    257,
+    258,
+    65_538,
+    1 << 32,
+    (1 << 32) + 1,
+    (1 << 32) + 2,
+    1 << 63,
+    (1 << 63) + 1,
+    u64::MAX - 1,
+    u64::MAX,
+];
+
+/// Another edition, or a number that is none.
+pub fn other_edition(random: &mut Random, edition: u64) -> u64 {
+    let other = if edition == 1 { 2 } else { 1 };
+    let none = random.choice(&NO_EDITIONS);
+    random.choice(&[other, none, none])
+}
+
+/// Another value for a field of the state but its kind and its edition.
 pub fn other_field(random: &mut Random, field: u64) -> u64 {
     let ends = [0, 1, 256, 257, 512, 513, TICKS, 1 << 32, 1 << 62, u64::MAX];
     let end = random.choice(&ends);

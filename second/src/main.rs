@@ -1,13 +1,14 @@
 //! What the second program is asked for by name: the listing, the picture and inputs for both, the sample, scripts of calls, and what they write and meet.
 
 use second::counts::{self, Met};
+use second::rule::Edition;
 use second::scripts::{self, chance};
 use second::{captioned, classes, lines, listing, sample, told};
 use std::fs;
 use std::io::{self, BufWriter, Read, Write};
 use std::process::ExitCode;
 
-const USAGE: &str = "second list | draw | save | classes | lines N | captioned FOLDER | sample [READINGS] | script NAME | script SEED CALLS | obey [COUNTS] | sum COUNTS.. | enough COUNTS..";
+const USAGE: &str = "second list | draw | save [EDITION] | classes | lines N | captioned FOLDER | sample [READINGS] | script NAME | script SEED CALLS | obey [COUNTS] | sum COUNTS.. | enough COUNTS..";
 
 fn main() -> ExitCode {
     let arguments: Vec<String> = std::env::args().skip(1).collect();
@@ -40,6 +41,10 @@ fn answer(words: &[&str], out: &mut impl Write) -> io::Result<bool> {
         ["list"] => out.write_all(&listing::list(io::stdin().lock())?)?,
         ["draw"] => out.write_all(&listing::draw(io::stdin().lock())?)?,
         ["save"] => out.write_all(&listing::save(io::stdin().lock())?)?,
+        ["save", edition] => match Edition::of_number(number(edition)?) {
+            Some(edition) => out.write_all(&listing::save_in(edition, io::stdin().lock())?)?,
+            None => return Ok(false),
+        },
         ["captioned", folder] => {
             for (number, input) in captioned::inputs().enumerate() {
                 fs::write(format!("{folder}/{number}"), &input)?;

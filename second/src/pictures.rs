@@ -45,7 +45,7 @@ const PLACES: [&str; 4] = ["alone", "at the beginning", "in the middle", "at the
 /// A sort by its name, and whether a call is of it. Those whose names begin with `refused` are of refused calls, all others of pictures that were drawn.
 type Sort = (&'static str, fn(&Drawing) -> bool);
 
-const SORTS: [Sort; 42] = [
+const SORTS: [Sort; 43] = [
     // The trace.
     ("of an empty trace", |drawing| drawing.table.is_empty()),
     ("of one bucket", |drawing| drawing.table.len() == 1),
@@ -120,6 +120,9 @@ const SORTS: [Sort; 42] = [
         drawing.of_those_before(|state| {
             late(state) && late(&drawing.state) && state.gaps != drawing.state.gaps
         })
+    }),
+    ("of the buckets before, by another edition", |drawing| {
+        drawing.of_those_before(|state| state.edition != drawing.state.edition)
     }),
     // The caption.
     ("with a sign that ends the first line", |drawing| {

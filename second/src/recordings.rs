@@ -131,8 +131,9 @@ pub fn met(state: State, refusal: u32, recording: &[u8]) -> Met {
 
 /// Replayed once more, by the settings of the answered state.
 fn outcomes(state: State, recording: &[u8]) -> Vec<Outcome> {
-    let mut trace =
-        Trace::open(Kind::Late, Size::Base(state.base), state.gaps).expect("settings in bounds");
+    let size = Size::Base(state.base);
+    let trace = Trace::open(state.edition, Kind::Late, size, state.gaps);
+    let mut trace = trace.expect("settings in bounds");
     let mut outcomes = Vec::new();
     logger::replayed(&mut trace, recording, |one| outcomes.push(one));
     outcomes

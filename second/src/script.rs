@@ -5,7 +5,7 @@ use crate::command::{Command, Name, Word};
 use crate::logger::{Frame, FRAME_BYTES};
 use crate::made;
 use crate::random::Random;
-use crate::rule::{self, Bucket, Kind};
+use crate::rule::{self, Bucket, Edition, Kind, EDITIONS};
 use crate::session::{record_of_bytes, Session, NUMBERS};
 
 pub struct Script {
@@ -14,7 +14,16 @@ pub struct Script {
     pub random: Random,
     pub calls: u64,
     most_calls: u64,
+    /// The edition that opens, loads and replays name; where there is none it is one by chance.
+    edition: Option<u64>,
+    /// What the chance of editions is taken from, so that all else is the same in either.
+    editions: Random,
 }
+
+/// So many of ten traces are of the second edition, the others of the first.
+const OF_THE_SECOND: u64 = 4;
+/// One load in so many is in any edition, the others in that of the trace at hand.
+const LOADED_IN_ANY: u64 = 6;
 
 impl Script {
     pub fn new(seed: u64) -> Script {
@@ -29,6 +38,8 @@ impl Script {
             random: Random::new(seed),
             calls: 0,
             most_calls,
+            edition: None,
+            editions: Random::new(seed ^ 8),
         }
     }
 
@@ -57,19 +68,50 @@ impl Script {
         self.random.below(of) == 0
     }
 
-    /// An open, a load or a replay by any four numbers; `by` is left out where it is 0. Answers whether it was accepted.
+    /// What the commands open, load and replay is in this edition, which may be any number.
+    pub fn in_edition(&mut self, edition: u64, commands: impl FnOnce(&mut Script)) {
+        let before = self.edition.replace(edition);
+        commands(self);
+        self.edition = before;
+    }
+
+    /// In both editions, one after the other.
+    pub fn in_each_edition(&mut self, mut commands: impl FnMut(&mut Script)) {
+        for edition in EDITIONS {
+            self.in_edition(edition.number(), &mut commands);
+        }
+    }
+
+    fn edition_for(&mut self, word: Word) -> u64 {
+        if let Some(edition) = self.edition {
+            return edition;
+        }
+        let at_hand = Edition::of_number(self.session.state.edition);
+        let stays = word == Word::Load && self.editions.below(LOADED_IN_ANY) > 0;
+        let edition = at_hand.filter(|_| stays).unwrap_or_else(|| {
+            match self.editions.below(10) < OF_THE_SECOND {
+                true => Edition::Second,
+                false => Edition::First,
+            }
+        });
+        edition.number()
+    }
+
+    /// An open, a load or a replay by any four numbers, in the edition that is set or in one by chance; `by` is left out where it is 0. Answers whether
+    /// it was accepted.
     pub fn named(&mut self, word: Word, kind: u64, size: u64, gaps: u64, by: u64) -> bool {
         let settings = [
+            (Name::Edition, self.edition_for(word)),
             (Name::Kind, kind),
             (Name::Size, size),
             (Name::Gaps, gaps),
             (Name::By, by),
         ];
-        let given = if by == 0 { 3 } else { 4 };
+        let given = if by == 0 { 4 } else { 5 };
         self.give(word, &settings[..given])
     }
 
-    fn settings(&mut self, word: Word, kind: u64, size: Size, gaps: u64) -> bool {
+    pub fn settings(&mut self, word: Word, kind: u64, size: Size, gaps: u64) -> bool {
         match size {
             Size::Steps(steps) => self.named(word, kind, steps, gaps, 0),
             Size::Base(base) => self.named(word, kind, base, gaps, 1),
@@ -109,6 +151,14 @@ impl Script {
 
     pub fn late(&mut self, tick: u32, value: i32) {
         self.read(Word::Late, tick, value);
+    }
+
+    /// By the call of this kind of trace.
+    pub fn read_in(&mut self, kind: Kind, tick: u32, value: i32) {
+        match kind {
+            Kind::InOrder => self.next(value),
+            Kind::Late => self.late(tick, value),
+        }
     }
 
     /// By any of the four words; the tick is left out where there is none.

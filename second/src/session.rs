@@ -121,17 +121,18 @@ impl Session {
         part(&self.values, command, Name::Values)
     }
 
-    /// Kind, C, K, slots in use, runs and readings of the state at hand.
-    pub fn fields(&self) -> [u64; 6] {
+    /// Kind, C, K, slots in use, runs, readings and edition of the state at hand.
+    pub fn fields(&self) -> [u64; 7] {
         let State {
             base,
             gaps,
             used,
             runs,
             readings,
+            edition,
             ..
         } = self.state;
-        [self.kind, base, gaps, used, runs, readings]
+        [self.kind, base, gaps, used, runs, readings, edition]
     }
 
     pub fn is_unsound(&self) -> bool {
@@ -199,6 +200,7 @@ impl Session {
 
     /// A call that answers a state.
     fn change(&mut self, command: &Command) -> Answer {
+        let edition = self.setting(command, Name::Edition);
         let kind = kind_of(self.setting(command, Name::Kind));
         let size = size_of(command);
         let gaps = self.setting(command, Name::Gaps);
@@ -206,8 +208,11 @@ impl Session {
         let tick = command.number(Name::Tick) as u32;
         let value = command.number(Name::Value) as i32;
         let answer = match command.word {
-            Word::Open => calls::open(kind, size, gaps, room),
-            Word::Load => calls::load(kind, size, gaps, &self.file[..self.length], room),
+            Word::Open => calls::open(edition, kind, size, gaps, room),
+            Word::Load => {
+                let file = &self.file[..self.length];
+                calls::load(edition, kind, size, gaps, file, room)
+            }
             Word::Next => calls::next(self.state, room, value),
             Word::Late => calls::late(self.state, room, tick, value),
             Word::NextTold => calls::next_tallied(self.state, room, value, &mut self.tally),
@@ -235,10 +240,11 @@ impl Session {
     }
 
     fn replay(&mut self, command: &Command) -> Answer {
+        let edition = self.setting(command, Name::Edition);
         let size = size_of(command);
         let gaps = self.setting(command, Name::Gaps);
         let room = &mut self.room[..self.lent];
-        let answer = calls::replay(size, gaps, &self.file[..self.length], room);
+        let answer = calls::replay(edition, size, gaps, &self.file[..self.length], room);
         if let Ok(replayed) = answer {
             self.go_on(replayed.state);
         }
@@ -338,6 +344,7 @@ impl Session {
             used: self.setting(command, Name::Used),
             runs: self.setting(command, Name::Runs),
             readings: self.setting(command, Name::Readings),
+            edition: self.setting(command, Name::Edition),
         };
     }
 

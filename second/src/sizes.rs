@@ -45,7 +45,7 @@ const BAD: [Size; 4] = [
     Size::Base(MOST_BASE + 1),
 ];
 const BY: [u64; 6] = [0, 1, 2, 1 << 32, 1 << 63, u64::MAX];
-const KINDS: [Kind; 2] = [Kind::InOrder, Kind::Late];
+pub const KINDS: [Kind; 2] = [Kind::InOrder, Kind::Late];
 /// Base limits whose tables merge.
 const MERGED: [u64; 6] = [1, 2, 3, 63, 511, 512];
 
@@ -103,7 +103,7 @@ fn parity(base: u64) -> &'static str {
     ["even", "odd"][base as usize % 2]
 }
 
-fn kind_name(kind: Kind) -> &'static str {
+pub fn kind_name(kind: Kind) -> &'static str {
     match kind {
         Kind::InOrder => "in order",
         Kind::Late => "late",
@@ -111,7 +111,7 @@ fn kind_name(kind: Kind) -> &'static str {
 }
 
 /// The kinds of trace that a word opens.
-fn kinds(word: Word) -> &'static [Kind] {
+pub fn kinds(word: Word) -> &'static [Kind] {
     match word {
         Word::Replay => &[Kind::Late],
         _ => &KINDS,

@@ -19,6 +19,7 @@ pub fn obey(script: impl BufRead, out: &mut impl Write) -> io::Result<Counts> {
         match Command::of_line(&line).map_err(io::Error::other)? {
             None => counts.heading(&line),
             Some(command) => {
+                counts.before(&session, &command);
                 let answer = session.obey(&command);
                 counts.after(&session, &command, &answer);
                 write_line(&session, &command, &answer, &mut text);
@@ -72,7 +73,7 @@ fn answered(session: &Session, command: &Command, answer: &Answer, text: &mut Ve
     match answer {
         Answer::State(Ok(after)) => numbers(text, &fields(after)),
         Answer::State(Err(_)) => match command.word {
-            Word::Open | Word::Load => numbers(text, &[0; 6]),
+            Word::Open | Word::Load => numbers(text, &[0; 7]),
             _ => numbers(text, &session.fields()),
         },
         // The session has gone on with the state after the accepted ones, or kept the one that was given.
@@ -89,7 +90,7 @@ fn answered(session: &Session, command: &Command, answer: &Answer, text: &mut Ve
             numbers(text, &fields(state));
             numbers(text, &[*accepted, *refused]);
         }
-        Answer::Replayed(Err(_)) => numbers(text, &[0; 8]),
+        Answer::Replayed(Err(_)) => numbers(text, &[0; 9]),
         Answer::Found(found) => {
             let shown = found.map_or([0; 4], |held| {
                 [held.level, held.error, held.least, held.largest]
@@ -109,7 +110,7 @@ fn answered(session: &Session, command: &Command, answer: &Answer, text: &mut Ve
     }
 }
 
-fn fields(state: &State) -> [u64; 6] {
+fn fields(state: &State) -> [u64; 7] {
     let kind = state.kind as u64;
     [
         kind,
@@ -118,6 +119,7 @@ fn fields(state: &State) -> [u64; 6] {
         state.used,
         state.runs,
         state.readings,
+        state.edition,
     ]
 }
 

@@ -9,6 +9,7 @@ use rule::Opening;
 use rule::Refusal;
 use rule::SLOT;
 use rule::Settings;
+use settings::edition_good;
 use settings::gaps_good;
 use settings::needed;
 
@@ -18,10 +19,13 @@ pub enum Admitted {
     Refused(Refusal),
 }
 
-// Refusals 1, 2 and 3.
+// Refusals 16, 1, 2 and 3.
 pub fn admit(named: Opening, room: &[i64]) -> Admitted
     ensures { λ r. ⌜ r ≡ admission (kept named) (admitted named (now (room .entry)) (accepted [])) ⌝ }
 {
+    if !edition_good(named.edition) {
+        return Admitted::Refused(Refusal::Edition);
+    }
     let size = named.size;
     if !size_good(size) {
         return Admitted::Refused(Refusal::Steps);

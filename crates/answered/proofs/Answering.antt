@@ -4,9 +4,10 @@ use mathlib.Core.Path.{_≡_, refl, sym, ap, subst, _∙_}
 use mathlib.Core.Bool.{Bool, true, false, cond, false≢true, not, _&&_, _||_}
 use mathlib.Core.List.{List, [], _∷_, _++_, map, List·Memᴰ, List·Memᴰ·head, List·Memᴰ·tail}
 use mathlib.Core.Option.{Option, some, none}
+use mathlib.Core.Logic.{_⊎_, inl, inr}
 use native.Mathlib.Omega.{arith}
 use borrow.Author.Tests.{eq-eqb, eqb-true, le-leb, le-ltb, leb-false, leb-true, lt-ltb, ne-eqb}
-use lib.Dec.{leb, ltb}
+use lib.Dec.{eqb, leb, ltb}
 use lib.IntN.{ℤ, natAbs}
 use lib.ListN.{drop, length}
 use Rattle.rule.specs.declared.Bucket.{Bucket}
@@ -24,7 +25,7 @@ use Rattle.rule.specs.Bytes.{recordsOf, saved}
 use Rattle.rule.specs.Calls.{Check, Verdict, accepted, admitted, baseOf, checked, counted, fileVerdict, found, foundOf, gapsKept, grown, isHeld, kept, late, lateOutcome, lateVerdict, loadVerdict, loaded, lookupOutcome, measured, nextOutcome, nextVerdict, opened, refused, sizeGood, traced, worstOutcome, writeVerdict, wrote}
 use Rattle.rule.specs.Numbers.{most, mostBase, recordWidth, slotWidth, tallyMost, ticks, word}
 use Rattle.rule.specs.Files.{Finds, FirstBroken, meets}
-use Rattle.rule.specs.Room.{bounded, laid, signed, gapsGood, roomy, runsAllowed, sound, tableOf}
+use Rattle.rule.specs.Room.{bounded, editionGood, laid, signed, gapsGood, roomy, runsAllowed, sound, tableOf}
 use Rattle.rule.specs.Rules.{Fault, fault, firstFault, follows, isWhole, placeOr, ruled, whole}
 use Rattle.rule.specs.Table.{Table, accept, holding, insert, limit, limitOver, needed, runs, single}
 use Rattle.rule.proofs.Merging.{settle-runs}
@@ -85,6 +86,20 @@ pub base-is : (z : Size) → baseOf z ≡ baseNamed z
 unfolding baseOf baseNamed
 base-is (Steps b) = omega arith
 base-is (Base c) = omega arith
+
+edition-due : (e : ℕ) → not (editionGood e) ≡ not (eqb e 1 || eqb e 2)
+unfolding editionGood
+edition-due e = refl
+
+-- 1 or 2
+pub one-of-two : (e : ℕ) → (e ≡ 1) ⊎ (e ≡ 2) → editionGood e ≡ true
+unfolding editionGood
+one-of-two e (inl h) = rw h
+one-of-two e (inr h) = rw h
+
+pub either-edition : (e : ℕ) → editionGood e ≡ true → (e ≡ 1) ⊎ (e ≡ 2)
+unfolding editionGood
+either-edition e h = by-test (eqb e 1) (λ g. inl (eqb-true e 1 g)) (λ g. inr (eqb-true e 2 (rw g at h)))
 
 gaps-due : (k : Kind) (gaps : ℕ) → not (gapsGood k (gapsKept k gaps)) ≡ late k && outside 256 gaps
 unfolding gapsGood gapsKept late
@@ -179,7 +194,7 @@ pictured out (accepted p) rows e = record { exactly = e; untouched = λ q f. abs
 
 admits : (g : Opening) (l : List ℤ) (v : Verdict Table) (rows : List Row) → said v ≡ firstOf rows → said (admitted g l v) ≡ firstOf (openRows g l ++ rows)
 unfolding admitted
-admits g l v rows e = said-checks _ v rows e ∙ rw (size-due (g .size), gaps-due (g .kind) (g .gaps), room-due g l)
+admits g l v rows e = said-checks _ v rows e ∙ rw (edition-due (g .edition), size-due (g .size), gaps-due (g .kind) (g .gaps), room-due g l)
 
 writes : (s : State) (l : List ℤ) (places taken : ℕ) → said (writeVerdict s l taken places) ≡ firstOf (writeRows s l places taken)
 unfolding writeVerdict
@@ -258,22 +273,22 @@ eighth g file l i e =
     first-of (g .kind) file (firstFault (g .kind) 0 0 (recordsOf file)) _ i
     (λ f. no-row (8, i) (other 10 _ [] i (λ n. omega arith) (other 9 _ _ i (λ n. omega arith) f)))
     (first-is-first (g .kind) file)
-    (other 7 _ _ i (λ n. omega arith) (other 3 _ _ i (λ n. omega arith) (other 2 _ _ i (λ n. omega arith) (other 1 _ _ i (λ n. omega arith) e))))
+    (other 7 _ _ i (λ n. omega arith) (other 3 _ _ i (λ n. omega arith) (other 2 _ _ i (λ n. omega arith) (other 1 _ _ i (λ n. omega arith) (other 16 _ _ i (λ n. omega arith) e)))))
 
 loaded-said : (g : Opening) (file : List ℕ) (l : List ℤ) → said (loaded g file l .0) ≡ firstOf (openRows g l ++ fileRows g file)
 loaded-said g file l = answered (kept g) l (loadVerdict g file l) (openRows g l ++ fileRows g file) (loading g file l) .exactly
 
 -- ---- B is C = 2B
 
-doubled : (k : Kind) (b gaps : ℕ) → kept (record { kind = k; size = Steps b; gaps = gaps }) ≡ kept (record { kind = k; size = Base (2 * b); gaps = gaps })
+doubled : (k : Kind) (b gaps edition : ℕ) → kept (record { kind = k; size = Steps b; gaps = gaps; edition = edition }) ≡ kept (record { kind = k; size = Base (2 * b); gaps = gaps; edition = edition })
 unfolding baseOf
-doubled k b gaps = refl
+doubled k b gaps edition = refl
 
-same-replay : (b gaps : ℕ) (recording : List ℕ) (l : List ℤ) → replayOutcome (Steps b) gaps recording l ≡ replayOutcome (Base (2 * b)) gaps recording l
+same-replay : (b gaps edition : ℕ) (recording : List ℕ) (l : List ℤ) → replayOutcome (Steps b) gaps edition recording l ≡ replayOutcome (Base (2 * b)) gaps edition recording l
 unfolding baseOf replayVerdict
-same-replay b gaps recording l =
-    ap (λ (v : Verdict Table). let o = traced (kept (lateOpening (Steps b) gaps)) l v in goneOn (framesOf recording) (o .0) (o .1))
-    (admitted-kept (lateOpening (Steps b) gaps) (lateOpening (Base (2 * b)) gaps) (doubled Late b gaps) l _)
+same-replay b gaps edition recording l =
+    ap (λ (v : Verdict Table). let o = traced (kept (lateOpening (Steps b) gaps edition)) l v in goneOn (framesOf recording) (o .0) (o .1))
+    (admitted-kept (lateOpening (Steps b) gaps edition) (lateOpening (Base (2 * b)) gaps edition) (doubled Late b gaps edition) l _)
 
 -- ---- the record rules
 
@@ -339,12 +354,12 @@ still g l s t m n tick v range e p =
     let q : Still g m t n = subst (λ (h : Settings). Still h m t n) (p .0) (past-still (s .settings) m (lateVerdict s m tick v) (late-past s m tick v range) e) in
     (q .0, q .1 ∙ p .1)
 
-replay-past : (size : Size) (gaps : ℕ) (recording : List ℕ) (l : List ℤ) (o : Verdict Course × List ℤ) → replayOutcome size gaps recording l ≡ o
-    → let g = kept (lateOpening size gaps) in drop (slotWidth * needed g) (o .1) ≡ drop (slotWidth * needed g) l
-replay-past size gaps recording l (refused r, m) e = ap (drop (slotWidth * needed (kept (lateOpening size gaps)))) (replay-refused size gaps recording l e)
-replay-past size gaps recording l (accepted c, m) e =
-    let g : Opening = lateOpening size gaps in
-    replay-keeps (λ s n ws. Still (kept g) l s n) (λ s t m n ws w. still (kept g) l s t m n (natAbs (w .tick)) (w .value)) size gaps recording l
+replay-past : (size : Size) (gaps edition : ℕ) (recording : List ℕ) (l : List ℤ) (o : Verdict Course × List ℤ) → replayOutcome size gaps edition recording l ≡ o
+    → let g = kept (lateOpening size gaps edition) in drop (slotWidth * needed g) (o .1) ≡ drop (slotWidth * needed g) l
+replay-past size gaps edition recording l (refused r, m) e = ap (drop (slotWidth * needed (kept (lateOpening size gaps edition)))) (replay-refused size gaps edition recording l e)
+replay-past size gaps edition recording l (accepted c, m) e =
+    let g : Opening = lateOpening size gaps edition in
+    replay-keeps (λ s n ws. Still (kept g) l s n) (λ s t m n ws w. still (kept g) l s t m n (natAbs (w .tick)) (w .value)) size gaps edition recording l
     (λ s n. past-still (kept g) l (admitted g l (accepted [])) (open-past g l)) e .1
 
 -- ---- every good C is taken
@@ -354,12 +369,12 @@ unfolding gapsGood gapsKept late
 gaps-fine InOrder gaps h = refl
 gaps-fine Late gaps h = in-bounds most gaps (h refl)
 
-any-base : (k : Kind) (c gaps : ℕ) (l : List ℤ) → 1 ≤ c → c ≤ 512 → (late k ≡ true → (1 ≤ gaps) × (gaps ≤ 256)) → 4 * (c + cond (late k) gaps 0 + 1) ≤ length l
-    → said (opened (record { kind = k; size = Base c; gaps = gaps }) l .0) ≡ none
+any-base : (k : Kind) (c gaps edition : ℕ) (l : List ℤ) → (edition ≡ 1) ⊎ (edition ≡ 2) → 1 ≤ c → c ≤ 512 → (late k ≡ true → (1 ≤ gaps) × (gaps ≤ 256)) → 4 * (c + cond (late k) gaps 0 + 1) ≤ length l
+    → said (opened (record { kind = k; size = Base c; gaps = gaps; edition = edition }) l .0) ≡ none
 unfolding baseOf baseNamed said traced
-any-base k c gaps l low high fine long =
-    let o : Opening = record { kind = k; size = Base c; gaps = gaps } in
-    let granted : Granted (kept o) l = record { base = in-bounds mostBase c (low, high); gaps = gaps-fine k gaps fine; long = omega (arith, long, needed-is o) } in
+any-base k c gaps edition l either low high fine long =
+    let o : Opening = record { kind = k; size = Base c; gaps = gaps; edition = edition } in
+    let granted : Granted (kept o) l = record { edition = one-of-two edition either; base = in-bounds mostBase c (low, high); gaps = gaps-fine k gaps fine; long = omega (arith, long, needed-is o) } in
     ap (λ (v : Verdict Table). said (traced (kept o) l v .0)) (grants o l granted (accepted []))
 
 -- ---- past the needed slots
@@ -404,12 +419,12 @@ demand1 = record {
   pictures = λ s l caption out. pictured out (pictureVerdict s l caption (length out)) (pictureRows s l caption (length out)) (pictures s l caption (length out));
   loads = λ g file l. answered (kept g) l (loadVerdict g file l) (openRows g l ++ fileRows g file)
       (loading g file l);
-  replays = λ size gaps recording l. gone-on (kept (lateOpening size gaps)) l (framesOf recording) (replayVerdict size gaps recording l) _ (admits (lateOpening size gaps) l _ (recordingRows recording) (said-all _ _));
-  any-base = λ k c gaps l low high. any-base k c gaps l low (omega arith);
+  replays = λ size gaps edition recording l. gone-on (kept (lateOpening size gaps edition)) l (framesOf recording) (replayVerdict size gaps edition recording l) _ (admits (lateOpening size gaps edition) l _ (recordingRows recording) (said-all _ _));
+  any-base = λ k c gaps edition l either low high. any-base k c gaps edition l either low (omega arith);
   names = λ b c. (refl, refl);
   one-law = λ z. sym (size-due z) ∙ ap not (size-base z) ∙ bounds mostBase (baseOf z) ∙ ap (outside 512) (base-is z);
-  same-open = λ k b gaps l. opened-kept _ _ (doubled k b gaps) l;
-  same-load = λ k b gaps file l. loaded-kept _ _ (doubled k b gaps) file l;
+  same-open = λ k b gaps edition l. opened-kept _ _ (doubled k b gaps edition) l;
+  same-load = λ k b gaps edition file l. loaded-kept _ _ (doubled k b gaps edition) file l;
   same-replay = same-replay;
   places = λ g file l i e. eighth g file l i (sym (loaded-said g file l) ∙ e);
   breaks = λ k file i inside broken. by-test (isWhole (firstFault k 0 0 (recordsOf file))) (λ h. absurd (false≢true (sym broken ∙ all-meet k file (firstFault k 0 0 (recordsOf file)) h (first-is-first k file) i inside))) (λ h. h);
@@ -418,10 +433,10 @@ demand1 = record {
   past-next = past-next;
   past-late = past-late;
   past-load = λ g file l. named-past g l _ (load-past g file l (loaded g file l) refl);
-  past-replay = λ size gaps recording l. named-past (lateOpening size gaps) l _ (replay-past size gaps recording l (replayOutcome size gaps recording l) refl);
+  past-replay = λ size gaps edition recording l. named-past (lateOpening size gaps edition) l _ (replay-past size gaps edition recording l (replayOutcome size gaps edition recording l) refl);
   past-next-many = many-past nextCall (λ v. signed v ≡ true) past-next (λ s t l m v e. accepted-settings (s .settings) l (nextVerdict s l v) e);
   past-late-many = many-past lateCall (λ w. signed (w .1) ≡ true) (λ s l w q. past-late s l (w .0) (w .1) q) (λ s t l m w e. accepted-settings (s .settings) l (lateVerdict s l (w .0) (w .1)) e);
-  sizes-in-order = λ c gaps k. (omega arith, omega arith);
-  sizes-late = λ c gaps k. (refl, refl);
+  sizes-in-order = λ c gaps edition k. (omega arith, omega arith);
+  sizes-late = λ c gaps edition k. (refl, refl);
   tally = told;
 }

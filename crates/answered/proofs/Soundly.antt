@@ -29,7 +29,7 @@ use Rattle.rooms.proofs.Bounds.{bounds, in-bounds}
 use Rattle.rooms.proofs.Laying.{length-slots}
 use Rattle.answered.specs.Answered.{slotsNeeded}
 use Rattle.answered.specs.Sound.{Follow, Lie, Soundness, Stands, Whole}
-use Rattle.answered.proofs.Answering.{law-meets, lawful, limit-is}
+use Rattle.answered.proofs.Answering.{either-edition, law-meets, lawful, limit-is, one-of-two}
 
 -- ---- numbers in their ranges
 
@@ -181,6 +181,7 @@ module _ (s : State) (l : List ℤ) where
       let f = sound-facts s l h in
       let k = s .settings .kind in
       record {
+        edition = either-edition (s .settings .edition) (f .edition-good);
         base = bounds mostBase (s .settings .base) (f .base-good);
         gaps-late = gaps-late k (s .settings .gaps) (f .gaps-good);
         gaps-in-order = gaps-none k (s .settings .gaps) (f .gaps-good);
@@ -205,6 +206,7 @@ module _ (s : State) (l : List ℤ) where
       let k = s .settings .kind in
       let same : tableOf s l ≡ w .buckets = ap (slots l 0) (w .used) ∙ lies-slots l 0 (w .buckets) (w .lie) in
       facts-sound s l (record {
+        edition-good = one-of-two (s .settings .edition) (w .edition);
         base-good = in-bounds mostBase (s .settings .base) (w .base);
         gaps-good = gaps-good k (s .settings .gaps) (w .gaps-late) (w .gaps-in-order);
         allowed = late-allowed k (s .settings .gaps) (s .runs) (w .allowed);

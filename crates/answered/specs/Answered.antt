@@ -3,6 +3,7 @@ use Prim.Native.Nat.{ℕ, _+_, _*_, _/_, _%_, _≤_, _<_, min}
 use mathlib.Core.Path.{_≡_}
 use mathlib.Core.Bool.{Bool, true, false, cond, not, _&&_, _||_}
 use mathlib.Core.List.{List, [], _∷_, _++_}
+use mathlib.Core.Logic.{_⊎_}
 use mathlib.Core.Option.{Option, some, none}
 use lib.Dec.{eqb, leb, ltb}
 use lib.IntN.{ℤ}
@@ -70,7 +71,7 @@ baseNamed (Base c) = c
 
 -- what an opening names, C in the place of B
 abbrev pub namedBy : Opening → Settings
-namedBy g = record { kind = g .kind; base = baseNamed (g .size); gaps = g .gaps }
+namedBy g = record { kind = g .kind; base = baseNamed (g .size); gaps = g .gaps; edition = g .edition }
 
 -- at most C steps, late one more for each of so many runs
 abbrev pub mostSteps : Settings → ℕ → ℕ
@@ -82,7 +83,8 @@ slotsNeeded s = mostSteps s (s .gaps) + 1
 
 abbrev pub openRows : Opening → List ℤ → List Row
 openRows g l =
-    refusing 1 (sizeOutside (g .size))
+    refusing 16 (not (eqb (g .edition) 1 || eqb (g .edition) 2))
+    ∷ refusing 1 (sizeOutside (g .size))
     ∷ refusing 2 (late (g .kind) && outside 256 (g .gaps))
     ∷ refusing 3 (ltb (length l) (4 * slotsNeeded (namedBy g)))
     ∷ []
@@ -210,18 +212,18 @@ pub record Demand1 : Type 0 where
   pub pictures : (s : State) (l : List ℤ) (caption out : List ℕ) → let o = pictureOutcome s l caption out in Answered (saidDrawn (o .0)) (pictureRows s l caption (length out)) out (o .1)
   pub loads : (g : Opening) (file : List ℕ) (l : List ℤ) → let o = loaded g file l in Answered (said (o .0)) (openRows g l ++ fileRows g file) l (o .1)
   -- a replay opens a late trace; its records' own refusals are those of late readings, and only counted: `fed-accepted`, `fed-refused` in logger's Promise.antt
-  pub replays : (size : Size) (gaps : ℕ) (recording : List ℕ) (l : List ℤ) → let o = replayOutcome size gaps recording l in
-      Answered (said (o .0)) (openRows (record { kind = Late; size = size; gaps = gaps }) l ++ recordingRows recording) l (o .1)
-  -- a trace opens with any C from 1 to 512, where K is 1 to 256 late and the room is long enough; so with any B from 1 to 256, by `same-open`
-  pub any-base : (k : Kind) (c gaps : ℕ) (l : List ℤ) → 1 ≤ c → c ≤ 512 → (late k ≡ true → (1 ≤ gaps) × (gaps ≤ 256)) → 4 * (c + cond (late k) gaps 0 + 1) ≤ length l
-      → said (opened (record { kind = k; size = Base c; gaps = gaps }) l .0) ≡ none
+  pub replays : (size : Size) (gaps edition : ℕ) (recording : List ℕ) (l : List ℤ) → let o = replayOutcome size gaps edition recording l in
+      Answered (said (o .0)) (openRows (record { kind = Late; size = size; gaps = gaps; edition = edition }) l ++ recordingRows recording) l (o .1)
+  -- a trace opens with any C from 1 to 512, in either edition, where K is 1 to 256 late and the room is long enough; so with any B from 1 to 256, by `same-open`
+  pub any-base : (k : Kind) (c gaps edition : ℕ) (l : List ℤ) → (edition ≡ 1) ⊎ (edition ≡ 2) → 1 ≤ c → c ≤ 512 → (late k ≡ true → (1 ≤ gaps) × (gaps ≤ 256)) → 4 * (c + cond (late k) gaps 0 + 1) ≤ length l
+      → said (opened (record { kind = k; size = Base c; gaps = gaps; edition = edition }) l .0) ≡ none
   pub names : (b c : ℕ) → (baseNamed (Steps b) ≡ 2 * b) × (baseNamed (Base c) ≡ c)
   -- B is C = 2B: refusal 1 is one law of the base limit, and open, load and replay answer and leave the same, refused or not; every other call reads the state alone
   pub one-law : (z : Size) → sizeOutside z ≡ outside 512 (baseNamed z)
-  pub same-open : (k : Kind) (b gaps : ℕ) (l : List ℤ) → opened (record { kind = k; size = Steps b; gaps = gaps }) l ≡ opened (record { kind = k; size = Base (2 * b); gaps = gaps }) l
-  pub same-load : (k : Kind) (b gaps : ℕ) (file : List ℕ) (l : List ℤ)
-      → loaded (record { kind = k; size = Steps b; gaps = gaps }) file l ≡ loaded (record { kind = k; size = Base (2 * b); gaps = gaps }) file l
-  pub same-replay : (b gaps : ℕ) (recording : List ℕ) (l : List ℤ) → replayOutcome (Steps b) gaps recording l ≡ replayOutcome (Base (2 * b)) gaps recording l
+  pub same-open : (k : Kind) (b gaps edition : ℕ) (l : List ℤ) → opened (record { kind = k; size = Steps b; gaps = gaps; edition = edition }) l ≡ opened (record { kind = k; size = Base (2 * b); gaps = gaps; edition = edition }) l
+  pub same-load : (k : Kind) (b gaps edition : ℕ) (file : List ℕ) (l : List ℤ)
+      → loaded (record { kind = k; size = Steps b; gaps = gaps; edition = edition }) file l ≡ loaded (record { kind = k; size = Base (2 * b); gaps = gaps; edition = edition }) file l
+  pub same-replay : (b gaps edition : ℕ) (recording : List ℕ) (l : List ℤ) → replayOutcome (Steps b) gaps edition recording l ≡ replayOutcome (Base (2 * b)) gaps edition recording l
   -- 8: the record at its place is the file's, it breaks a rule, and all before it meet them; and it is due wherever a record breaks one
   pub places : (g : Opening) (file : List ℕ) (l : List ℤ) (i : ℕ) → said (loaded g file l .0) ≡ some (8, i) → FirstBroken (g .kind) file i
   pub breaks : (k : Kind) (file : List ℕ) (i : ℕ) → i < length file / 16 → meets k file i ≡ false → ruled k (recordsOf file) ≡ false
@@ -232,13 +234,13 @@ pub record Demand1 : Type 0 where
   pub past-next : (s : State) (l : List ℤ) (v : ℤ) → signed v ≡ true → drop (4 * slotsNeeded (s .settings)) (nextOutcome s l v .1) ≡ drop (4 * slotsNeeded (s .settings)) l
   pub past-late : (s : State) (l : List ℤ) (tick : ℕ) (v : ℤ) → signed v ≡ true → drop (4 * slotsNeeded (s .settings)) (lateOutcome s l tick v .1) ≡ drop (4 * slotsNeeded (s .settings)) l
   pub past-load : (g : Opening) (file : List ℕ) (l : List ℤ) → drop (4 * slotsNeeded (namedBy g)) (loaded g file l .1) ≡ drop (4 * slotsNeeded (namedBy g)) l
-  pub past-replay : (size : Size) (gaps : ℕ) (recording : List ℕ) (l : List ℤ) → let n = 4 * slotsNeeded (record { kind = Late; base = baseNamed size; gaps = gaps }) in
-      drop n (replayOutcome size gaps recording l .1) ≡ drop n l
+  pub past-replay : (size : Size) (gaps edition : ℕ) (recording : List ℕ) (l : List ℤ) → let n = 4 * slotsNeeded (record { kind = Late; base = baseNamed size; gaps = gaps; edition = edition }) in
+      drop n (replayOutcome size gaps edition recording l .1) ≡ drop n l
   pub past-next-many : (s : State) (l vs : List ℤ) → AllSigned vs → drop (4 * slotsNeeded (s .settings)) (nextMany s l vs .room) ≡ drop (4 * slotsNeeded (s .settings)) l
   pub past-late-many : (s : State) (l : List ℤ) (ws : List (ℕ × ℤ)) → AllTimed ws → drop (4 * slotsNeeded (s .settings)) (lateMany s l ws .room) ≡ drop (4 * slotsNeeded (s .settings)) l
   -- so many slots are needed, and so many steps kept at most, for a base limit C: in order C + 1 and C, whatever K is named, and late C + K + 1 and C + k
-  pub sizes-in-order : (c gaps k : ℕ) → let s : Settings = record { kind = InOrder; base = c; gaps = gaps } in (slotsNeeded s ≡ c + 1) × (mostSteps s k ≡ c)
-  pub sizes-late : (c gaps k : ℕ) → let s : Settings = record { kind = Late; base = c; gaps = gaps } in (slotsNeeded s ≡ c + gaps + 1) × (mostSteps s k ≡ c + k)
+  pub sizes-in-order : (c gaps edition k : ℕ) → let s : Settings = record { kind = InOrder; base = c; gaps = gaps; edition = edition } in (slotsNeeded s ≡ c + 1) × (mostSteps s k ≡ c)
+  pub sizes-late : (c gaps edition k : ℕ) → let s : Settings = record { kind = Late; base = c; gaps = gaps; edition = edition } in (slotsNeeded s ≡ c + gaps + 1) × (mostSteps s k ≡ c + k)
   -- the one thing that a refused reading changes
   pub tally : (t : Tally) (used : ℕ) (o : Verdict State) (r : ℕ × ℕ) → said o ≡ some r
       → counted t used o ≡ record { accepted = t .accepted; refused = min (t .refused + 1) 4294967295; merges = t .merges }

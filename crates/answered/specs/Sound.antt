@@ -3,6 +3,7 @@ use Prim.Native.Nat.{ℕ, _+_, _*_, _≤_, _<_}
 use mathlib.Core.Path.{_≡_}
 use mathlib.Core.Bool.{true, false}
 use mathlib.Core.List.{List, [], _∷_}
+use mathlib.Core.Logic.{_⊎_}
 use lib.IntN.{ℤ, pos, negsuc}
 use lib.ListN.{getD, length}
 use lib.Signed.{leZ}
@@ -36,6 +37,8 @@ Follow k e [] = Unit {0}
 Follow k e (b ∷ t) = Lawful k e b × Follow k (b .start + b .count) t
 
 pub record Whole (s : State) (l : List ℤ) : Type 0 where
+  -- the edition is 1 or 2
+  pub edition : (s .settings .edition ≡ 1) ⊎ (s .settings .edition ≡ 2)
   -- C and K are in bounds, K is 0 in order
   pub base : (1 ≤ s .settings .base) × (s .settings .base ≤ 512)
   pub gaps-late : late (s .settings .kind) ≡ true → (1 ≤ s .settings .gaps) × (s .settings .gaps ≤ 256)

@@ -1,6 +1,7 @@
 // The reading of the listing's input begun, and whether it has ended.
 ghost use mathlib.Core.Path.{_≡_};
 ghost use Rattle.listing.specs.Feeding.{fresh, hasEnded};
+use listing::EDITION;
 use listing::Feeding;
 use listing::Stage;
 use rule::Size;
@@ -14,7 +15,10 @@ const DEFAULT_STEPS: usize = 64;
 pub fn begin(room: &mut [i64]) -> Feeding
     ensures { λ r. ⌜ (r, now (room .exit)) ≡ fresh (now (room .entry)) ⌝ }
 {
-    let last = Trace::open(openings::in_order(Size::Steps(DEFAULT_STEPS)), &mut *room);
+    let last = Trace::open(
+        openings::in_order(Size::Steps(DEFAULT_STEPS), EDITION),
+        &mut *room,
+    );
     Feeding {
         last,
         stage: Stage::Nothing,

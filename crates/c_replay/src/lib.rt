@@ -13,5 +13,5 @@ pub extern "C" fn ndz_replay(named: Named, recording: &[u8], room: &mut [i64]) -
 {
     let opening = opening_of(named);
     let size = opening.size;
-    recounting(replay(size, opening.gaps, recording, &mut *room))
+    recounting(replay(size, opening.gaps, opening.edition, recording, &mut *room))
 }

@@ -33,7 +33,7 @@ pub(crate) const ROOM: u64 = 0x726f6f6d;
 
 pub(crate) const FILE: u64 = 0x66696c65;
 
-// The numbers of a command by the places of their names: first the six fields of a state, last one that is no name's.
+// The numbers of a command by the places of their names: first six fields of a state, whose seventh is the edition, last one that is no name's.
 pub(crate) const NUMBERS: usize = 6;
 
 pub(crate) const BYTES: usize = 7;
@@ -53,6 +53,8 @@ pub(crate) const FROM: usize = 13;
 pub(crate) const TICKS: usize = 14;
 
 pub(crate) const VALUES: usize = 15;
+
+pub(crate) const EDITION: usize = 16;
 
 // What is read so far of a line: its word, the name of the number at hand, letters of either, and the number.
 pub struct Reading {
@@ -74,7 +76,7 @@ pub(crate) fn nothing() -> Reading {
 }
 
 fn place(name: u64) -> usize
-    ensures { λ r. ⌜ r < 17 ⌝ }
+    ensures { λ r. ⌜ r < 18 ⌝ }
 {
     match name {
         0x6b696e64 => 0,
@@ -93,7 +95,8 @@ fn place(name: u64) -> usize
         0x66726f6d => FROM,
         0x7469636b73 => TICKS,
         0x76616c756573 => VALUES,
-        _ => 16,
+        0x65646974696f6e => EDITION,
+        _ => 17,
     }
 }
 
@@ -142,6 +145,6 @@ impl Reading {
     }
 }
 
-pub(crate) fn put(given: &mut [u64; 17], reading: Reading) {
+pub(crate) fn put(given: &mut [u64; 18], reading: Reading) {
     given[place(reading.name)] = reading.value();
 }

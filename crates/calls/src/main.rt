@@ -8,6 +8,7 @@ ghost use Prim.Native.Nat.{_≤_};
 use line::AT;
 use line::BY;
 use line::BYTES;
+use line::EDITION;
 use line::FROM;
 use line::NUMBERS;
 use line::Reading;
@@ -41,7 +42,7 @@ fn kind_of(number: u64) -> Kind {
     }
 }
 
-fn size_of(given: &[u64; 17]) -> Size {
+fn size_of(given: &[u64; 18]) -> Size {
     if given[BY] == 0 {
         Size::Steps(given[SIZE] as usize)
     } else {
@@ -49,26 +50,28 @@ fn size_of(given: &[u64; 17]) -> Size {
     }
 }
 
-fn opening_of(given: &[u64; 17]) -> Opening {
+fn opening_of(given: &[u64; 18]) -> Opening {
     let kind = kind_of(given[0]);
     let size = size_of(given);
     Opening {
         kind,
         size,
         gaps: given[2] as usize,
+        edition: given[EDITION] as usize,
     }
 }
 
-fn settings_of(given: &[u64; 17]) -> Settings {
+fn settings_of(given: &[u64; 18]) -> Settings {
     let kind = kind_of(given[0]);
     Settings {
         kind,
         base: given[1] as usize,
         gaps: given[2] as usize,
+        edition: given[EDITION] as usize,
     }
 }
 
-fn trace_of(given: &[u64; 17]) -> Trace {
+fn trace_of(given: &[u64; 18]) -> Trace {
     Trace {
         state: State {
             settings: settings_of(given),
@@ -80,7 +83,7 @@ fn trace_of(given: &[u64; 17]) -> Trace {
 }
 
 // What names that are not given stand for: the state at hand, else 0.
-fn at_hand(trace: Trace) -> [u64; 17] {
+fn at_hand(trace: Trace) -> [u64; 18] {
     let state = trace.state;
     let settings = state.settings;
     let kind = settings.kind;
@@ -101,6 +104,7 @@ fn at_hand(trace: Trace) -> [u64; 17] {
         0,
         0,
         0,
+        settings.edition as u64,
         0,
     ]
 }
@@ -128,11 +132,11 @@ fn signed32(bits: u32) -> i32 {
     }
 }
 
-fn value(given: &[u64; 17]) -> i32 {
+fn value(given: &[u64; 18]) -> i32 {
     signed32((given[VALUE] % 4294967296) as u32)
 }
 
-fn tick(given: &[u64; 17]) -> u32 {
+fn tick(given: &[u64; 18]) -> u32 {
     (given[TICK] % 4294967296) as u32
 }
 
@@ -178,7 +182,7 @@ fn put_value(values: &mut [i32], at: usize, value: i32) {
     }
 }
 
-fn call(word: u64, given: &[u64; 17], trace: Trace, room: &mut [i64], file: &[u8]) -> Answer {
+fn call(word: u64, given: &[u64; 18], trace: Trace, room: &mut [i64], file: &[u8]) -> Answer {
     match word {
         line::OPEN => Trace::open(opening_of(given), &mut *room),
         line::NEXT => trace.next(&mut *room, value(given)),
@@ -188,7 +192,7 @@ fn call(word: u64, given: &[u64; 17], trace: Trace, room: &mut [i64], file: &[u8
 }
 
 // A reading, which hands back the trace that it was given where it is refused.
-fn read_on(word: u64, given: &[u64; 17], trace: Trace, room: &mut [i64]) -> Trace {
+fn read_on(word: u64, given: &[u64; 18], trace: Trace, room: &mut [i64]) -> Trace {
     let answer = call(word, given, trace, room, b"");
     show::answer(word, trace, answer);
     show::numbers(b" room ", room);
@@ -197,7 +201,7 @@ fn read_on(word: u64, given: &[u64; 17], trace: Trace, room: &mut [i64]) -> Trac
 }
 
 // Many readings in order, which hand back the trace after the accepted ones.
-fn next_many(given: &[u64; 17], trace: Trace, room: &mut [i64], values: &[i32]) -> Trace {
+fn next_many(given: &[u64; 18], trace: Trace, room: &mut [i64], values: &[i32]) -> Trace {
     let from = least(given[FROM] as usize, values.len());
     let count = least(given[VALUES] as usize, values.len() - from);
     let progress = many::next(trace, &mut *room, &values[from..from + count]);
@@ -209,7 +213,7 @@ fn next_many(given: &[u64; 17], trace: Trace, room: &mut [i64], values: &[i32]) 
 
 // Many late ones.
 fn late_many(
-    given: &[u64; 17],
+    given: &[u64; 18],
     trace: Trace,
     room: &mut [i64],
     ticks: &[u32],
@@ -228,9 +232,9 @@ fn late_many(
 }
 
 // An open or a load, which has none to hand back.
-fn begin(word: u64, given: &[u64; 17], trace: Trace, room: &mut [i64], file: &[u8]) -> Trace {
+fn begin(word: u64, given: &[u64; 18], trace: Trace, room: &mut [i64], file: &[u8]) -> Trace {
     let answer = call(word, given, trace, room, file);
-    show::answer(word, trace_of(&[0; 17]), answer);
+    show::answer(word, trace_of(&[0; 18]), answer);
     show::numbers(b" room ", room);
     if word == line::LOAD {
         show::bytes(b" file ", file);
@@ -242,7 +246,7 @@ fn begin(word: u64, given: &[u64; 17], trace: Trace, room: &mut [i64], file: &[u
 // What hands back a trace.
 fn go_on(
     word: u64,
-    given: &[u64; 17],
+    given: &[u64; 18],
     held: Held,
     room: &mut [i64],
     file: &[u8],
@@ -275,13 +279,13 @@ fn go_on(
     }
 }
 
-fn look(given: &[u64; 17], trace: Trace, room: &[i64]) {
+fn look(given: &[u64; 18], trace: Trace, room: &[i64]) {
     show::found(trace.lookup(room, tick(given)));
     show::numbers(b" room ", room);
     show::text(b"\n");
 }
 
-fn save(given: &[u64; 17], trace: Trace, room: &[i64], output: &mut [u8]) {
+fn save(given: &[u64; 18], trace: Trace, room: &[i64], output: &mut [u8]) {
     let count = least(given[BYTES] as usize, output.len());
     show::written(saved::save(trace, room, &mut output[0..count]));
     show::numbers(b" room ", room);
@@ -296,7 +300,7 @@ fn measure(trace: Trace, room: &[i64]) {
 }
 
 // A call that leaves the trace.
-fn ask(word: u64, given: &[u64; 17], held: Held, room: &[i64], output: &mut [u8]) {
+fn ask(word: u64, given: &[u64; 18], held: Held, room: &[i64], output: &mut [u8]) {
     let lent = &room[0..least(held.numbers, room.len())];
     match word {
         line::LOOKUP => look(given, held.trace, lent),
@@ -308,7 +312,7 @@ fn ask(word: u64, given: &[u64; 17], held: Held, room: &[i64], output: &mut [u8]
 
 fn change(
     word: u64,
-    given: &[u64; 17],
+    given: &[u64; 18],
     room: &mut [i64],
     file: &mut [u8],
     output: &[u8],
@@ -334,7 +338,7 @@ fn change(
 }
 
 // How much is lent from now on.
-fn lent(word: u64, given: &[u64; 17], held: Held) -> Held {
+fn lent(word: u64, given: &[u64; 18], held: Held) -> Held {
     let mut next = held;
     if word == line::ROOM {
         next.numbers = given[NUMBERS] as usize;
@@ -347,7 +351,7 @@ fn lent(word: u64, given: &[u64; 17], held: Held) -> Held {
 
 fn obey(
     word: u64,
-    given: &[u64; 17],
+    given: &[u64; 18],
     held: Held,
     room: &mut [i64],
     file: &mut [u8],
@@ -367,7 +371,7 @@ fn obey(
 fn turn(
     byte: u8,
     held: Held,
-    given: &mut [u64; 17],
+    given: &mut [u64; 18],
     room: &mut [i64],
     file: &mut [u8],
     output: &mut [u8],
@@ -409,7 +413,7 @@ fn run(
     ticks: &mut [u32],
     values: &mut [i32],
 ) {
-    let mut given = [0; 17];
+    let mut given = [0; 18];
     let mut held = Held {
         trace: trace_of(&given),
         numbers: 0,

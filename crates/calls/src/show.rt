@@ -49,6 +49,7 @@ fn state(trace: Trace) {
     unsigned(state.used as u64);
     unsigned(state.runs as u64);
     unsigned(state.readings as u64);
+    unsigned(settings.edition as u64);
 }
 
 fn name(word: u64) {

@@ -79,20 +79,20 @@ reading-narrow E r t narrow b member =
 
 -- what each merge keeps, settling keeps
 settled : {kind : Kind} {base : ℕ} (P : Table → Type 0) → ((t u : Table) → limitOver kind base (runs t) < length t → Merge t u → P t → P u)
-    → {t v : Table} {n : ℕ} → Settles kind base t v n → P t → P v
+    → {t v : Table} {n : ℕ} → Settles Merge kind base t v n → P t → P v
 settled P step (rests h) p = p
 settled P step (merges {t = t} {u = u} h m s) p = settled P step s (step t u h m p)
 
-settled-length : {kind : Kind} {base : ℕ} {t v : Table} {n : ℕ} → Settles kind base t v n → n + length v ≡ length t
+settled-length : {kind : Kind} {base : ℕ} {t v : Table} {n : ℕ} → Settles Merge kind base t v n → n + length v ≡ length t
 settled-length (rests h) = omega arith
 settled-length (merges h m s) =
     omega (arith, settled-length s, ap length (m .stands), ap length (m .leaves), merged-length (m .first) (m .second) (m .touching) (m .left) (m .right))
 
-settled-size : {kind : Kind} {base : ℕ} {t v : Table} {n : ℕ} → Settles kind base t v n → length v ≤ limitOver kind base (runs v)
+settled-size : {kind : Kind} {base : ℕ} {t v : Table} {n : ℕ} → Settles Merge kind base t v n → length v ≤ limitOver kind base (runs v)
 settled-size (rests h) = h
 settled-size (merges h m s) = settled-size s
 
-pub held-invariant : {kind : Kind} {base : ℕ} {rs : List Reading} {t : Table} {m : ℕ} → Held kind base rs t m → Invariant kind rs t
+pub held-invariant : {kind : Kind} {base : ℕ} {rs : List Reading} {t : Table} {m : ℕ} → Held Merge kind base rs t m → Invariant kind rs t
 unfolding Joined Ordered holders readings times runs beginning
 held-invariant {kind} opened =
     record { ordered = tt; covers = λ tick. refl; each = refl; extremes = λ b m. absurd (List·Memᴰ·not-nil m); true-runs = refl; joined = none kind }
@@ -103,15 +103,15 @@ held-invariant {kind} opened =
 held-invariant {kind} (accepted {rs = rs} {t = t} r h takes s) =
     settled (Invariant kind (r ∷ rs)) (λ t u over m k. merge-invariant m k) s (reading-invariant kind rs t (held-invariant h) r takes)
 
-held-length : {kind : Kind} {base : ℕ} {rs : List Reading} {t : Table} {m : ℕ} → Held kind base rs t m → m + length t ≡ length rs
+held-length : {kind : Kind} {base : ℕ} {rs : List Reading} {t : Table} {m : ℕ} → Held Merge kind base rs t m → m + length t ≡ length rs
 held-length opened = omega arith
 held-length (accepted {t = t} r h takes s) = omega (arith, held-length h, settled-length s, insert-length (single (r .tick) (r .value)) t)
 
-held-size : {kind : Kind} {base : ℕ} {rs : List Reading} {t : Table} {m : ℕ} → Held kind base rs t m → length t ≤ limitOver kind base (runs t)
+held-size : {kind : Kind} {base : ℕ} {rs : List Reading} {t : Table} {m : ℕ} → Held Merge kind base rs t m → length t ≤ limitOver kind base (runs t)
 held-size opened = omega arith
 held-size (accepted r h takes s) = settled-size s
 
-held-narrow : {kind : Kind} {base : ℕ} {rs : List Reading} {t : Table} {m : ℕ} (c : Curve) (E : ℕ) → 2 * steps c ≤ base + 1 → Near E c rs → Held kind base rs t m → Narrow E t
+held-narrow : {kind : Kind} {base : ℕ} {rs : List Reading} {t : Table} {m : ℕ} (c : Curve) (E : ℕ) → 2 * steps c ≤ base + 1 → Near E c rs → Held Merge kind base rs t m → Narrow E t
 held-narrow c E few near opened = λ b m. absurd (List·Memᴰ·not-nil m)
 held-narrow {kind} {base} c E few near (accepted {rs = rs} {t = t} r h takes s) =
     settled (λ u. Invariant kind (r ∷ rs) u × Narrow E u) (λ t u over m k. (merge-invariant m (k .0), merge-narrow kind base c E few near over m (k .0) (k .1))) s
@@ -134,7 +134,7 @@ shown {kind} {rs} {t} E invariant narrow r m =
     let bounds = x .bounds r m (held .3) in
     (held .0, held .1, within-level (held .0) (least-largest rs (held .0) x) E (r .value) (bounds .0) (bounds .1) (narrow (held .0) (held .2)))
 
-pub served : (kind : Kind) (base : ℕ) (rs : List Reading) (t : Table) (m : ℕ) → 1 ≤ base → Held kind base rs t m → Served kind base rs t m
+pub served : (kind : Kind) (base : ℕ) (rs : List Reading) (t : Table) (m : ℕ) → 1 ≤ base → Held Merge kind base rs t m → Served kind base rs t m
 served kind base rs t m positive h =
     let invariant : Invariant kind rs t = held-invariant h in
     record {

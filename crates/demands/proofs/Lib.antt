@@ -8,3 +8,4 @@ pub mod Coverage
 pub mod Invariant
 pub mod Demand3
 pub mod Instance
+pub mod Editions

@@ -1,5 +1,5 @@
--- The accepted readings, newest first, and the tables that a rule which merges some cheapest neighbours can hold after them.
--- Nothing is said of ties, and the base limit is any number: document 01's rule, with its lowest start and the base limit kept, is one of these.
+-- The accepted readings, newest first, and the tables that a rule can hold after them: one that merges some cheapest neighbours, and in words that of each edition.
+-- Of the first nothing is said of ties, and the base limit is any number: the rule of each edition, with the base limit kept, is one of these.
 use Prim.Native.Nat.{ℕ, zero, suc, _+_, _≤_, _<_}
 use mathlib.Core.Path.{_≡_}
 use mathlib.Core.Bool.{Bool, true, false, not, cond, _||_}
@@ -48,10 +48,23 @@ pub record Merge (t u : Table) : Type 0 where
   pub touching : neighbours first second ≡ true
   pub cheapest : (l : Table) (a b : Bucket) (r : Table) → t ≡ l ++ (a ∷ b ∷ r) → neighbours a b ≡ true → spread (union first second) ≤ spread (union a b)
 
--- while the buckets are more than the limit, such a merge is made; the number counts them
-pub data Settles (kind : Kind) (base : ℕ) : Table → Table → ℕ → Type 0 where
-  rests : {t : Table} → length t ≤ limitOver kind base (runs t) → Settles kind base t t 0
-  merges : {t u v : Table} {n : ℕ} → limitOver kind base (runs t) < length t → Merge t u → Settles kind base u v n → Settles kind base t v (suc n)
+-- edition 1: of the cheapest the two with the lowest start
+pub record LowestStart (t u : Table) : Type 0 where
+  pub merged : Merge t u
+  pub lowest : (l : Table) (a b : Bucket) (r : Table) → t ≡ l ++ (a ∷ b ∷ r) → neighbours a b ≡ true → spread (union a b) ≡ spread (union (merged .first) (merged .second)) → merged .first .start ≤ a .start
+
+-- edition 2: of the cheapest those with the fewest ticks, and of these the two with the lowest start
+pub record FewestTicks (t u : Table) : Type 0 where
+  pub merged : Merge t u
+  pub fewest : (l : Table) (a b : Bucket) (r : Table) → t ≡ l ++ (a ∷ b ∷ r) → neighbours a b ≡ true → spread (union a b) ≡ spread (union (merged .first) (merged .second))
+      → merged .first .count + merged .second .count ≤ a .count + b .count
+  pub lowest : (l : Table) (a b : Bucket) (r : Table) → t ≡ l ++ (a ∷ b ∷ r) → neighbours a b ≡ true → spread (union a b) ≡ spread (union (merged .first) (merged .second))
+      → a .count + b .count ≡ merged .first .count + merged .second .count → merged .first .start ≤ a .start
+
+-- while the buckets are more than the limit, a merge is made that the rule M allows; the number counts them
+pub data Settles (M : Table → Table → Type 0) (kind : Kind) (base : ℕ) : Table → Table → ℕ → Type 0 where
+  rests : {t : Table} → length t ≤ limitOver kind base (runs t) → Settles M kind base t t 0
+  merges : {t u v : Table} {n : ℕ} → limitOver kind base (runs t) < length t → M t u → Settles M kind base u v n → Settles M kind base t v (suc n)
 
 -- the tick of an accepted reading: in order the next one, late one that is not held
 unfoldable pub Takes : Kind → Table → ℕ → Type 0
@@ -59,12 +72,12 @@ Takes InOrder t tick = tick ≡ nextTick t
 Takes Late t tick = holders tick t ≡ 0
 
 -- after the readings, newest first, the trace has the buckets t, and so many merges were made
-pub data Held (kind : Kind) (base : ℕ) : List Reading → Table → ℕ → Type 0 where
-  opened : Held kind base [] [] 0
-  accepted : {rs : List Reading} {t u : Table} {m n : ℕ} (r : Reading) → Held kind base rs t m → Takes kind t (r .tick)
-      → Settles kind base (insert (single (r .tick) (r .value)) t) u n → Held kind base (r ∷ rs) u (n + m)
+pub data Held (M : Table → Table → Type 0) (kind : Kind) (base : ℕ) : List Reading → Table → ℕ → Type 0 where
+  opened : Held M kind base [] [] 0
+  accepted : {rs : List Reading} {t u : Table} {m n : ℕ} (r : Reading) → Held M kind base rs t m → Takes kind t (r .tick)
+      → Settles M kind base (insert (single (r .tick) (r .value)) t) u n → Held M kind base (r ∷ rs) u (n + m)
 
--- document 01's own table after the readings
+-- the rule's own table after the readings, by the edition of the settings
 unfoldable pub tableAfter : Settings → List Reading → Table
 tableAfter s [] = []
 tableAfter s (r ∷ rs) = accept s (tableAfter s rs) (r .tick) (r .value)

@@ -2,4 +2,5 @@
 pub mod Curve
 pub mod History
 pub mod Served
+pub mod Editions
 pub mod Tight

@@ -7,7 +7,7 @@ use native.Mathlib.Omega.{arith}
 use lib.IntN.{ℤ}
 use lib.ListN.{length}
 use Rattle.rule.specs.declared.Refusal.{Refusal}
-use Rattle.rule.specs.declared.Refusal.the-variants.{Steps, Gaps, Room, Unsound, Kind, Tick, Length, Record, Runs, Overfull, Taken, Absent, Short, Line, Caption}
+use Rattle.rule.specs.declared.Refusal.the-variants.{Steps, Gaps, Room, Unsound, Kind, Tick, Length, Record, Runs, Overfull, Taken, Absent, Short, Line, Caption, Edition}
 use Rattle.rule.specs.declared.State.{State}
 use Rattle.rule.specs.declared.Tally.{Tally}
 use Rattle.rule.specs.declared.Found.{Found}
@@ -15,7 +15,7 @@ use Rattle.rule.specs.declared.Written.{Written}
 use Rattle.rule.specs.Answers.{number, place}
 use Rattle.rule.specs.Calls.{Verdict, accepted, checked, counted, foundOf, grown, lateOutcome, lateVerdict, loaded, lookupOutcome, measured, nextOutcome, nextVerdict, opened, refused, rowOutcome, saveOutcome, traced, worstOutcome, writeVerdict, wrote}
 use Rattle.rule.specs.Numbers.{recordWidth}
-use Rattle.rule.specs.Room.{allOf, bounded, clauses, sound}
+use Rattle.rule.specs.Room.{allOf, bounded, clauses, editionGood, sound}
 use Rattle.rule.proofs.Whole.{by-test}
 use Rattle.trace.specs.Answers.{answer, answered}
 use Rattle.over.specs.declared.Sought.{Sought}
@@ -57,6 +57,7 @@ numbered Absent = omega arith
 numbered Short = omega arith
 numbered Line = omega arith
 numbered Caption = omega arith
+numbered Edition = omega arith
 
 replies : (back : Fields) (v : Verdict State) (rows : List Row) (before after : List ℤ) → Answered (said v) rows before after → Replies rows back before after (replying back (answer v))
 unfolding said replying answer
@@ -95,7 +96,7 @@ eight back (refused r) e = ap (λ (n : ℕ). some (n, place r)) e
 eight back (accepted s) e = absurd (omega arith)
 
 pub exported-demand1 : ExportedDemand1
-unfolding sound clauses allOf bounded nextVerdict lateVerdict lookupOutcome foundOf writeVerdict searchOutcome soughtOf worstOutcome measured checked traced wrote answer replying showing telling pointing erring kindOf sizeOf
+unfolding sound clauses editionGood allOf bounded nextVerdict lateVerdict lookupOutcome foundOf writeVerdict searchOutcome soughtOf worstOutcome measured checked traced wrote answer replying showing telling pointing erring kindOf sizeOf
 exported-demand1 = record {
   opens = λ named l. let g = openingOf named in replies none (opened g l .0) (openRows g l) l (opened g l .1) (demand1 .opens g l);
   nexts = λ f l v. let s = stateFrom f in replies f (nextOutcome s l v .0) (nextRows s l) l (nextOutcome s l v .1) (demand1 .nexts s l v);
@@ -110,9 +111,9 @@ exported-demand1 = record {
   loads = λ named file l. let g = openingOf named in replies none (loaded g file l .0) (openRows g l ++ fileRows g file) l (loaded g file l .1) (demand1 .loads g file l);
   places = λ named file l e. let g = openingOf named in demand1 .places g file l (replying none (answer (loaded g file l .0)) .place) (eight none (loaded g file l .0) e);
   kinds = (refl, λ n. refl);
-  openings = λ kind size gaps n. (refl, refl);
-  same-open = λ kind b gaps n l. ap (λ (o : Verdict State × List ℤ). replied none (answered o)) (demand1 .same-open (kindOf kind) b gaps l);
-  same-load = λ kind b gaps n file l. ap (λ (o : Verdict State × List ℤ). replied none (answered o)) (demand1 .same-load (kindOf kind) b gaps file l);
+  openings = λ kind size gaps edition n. (refl, refl);
+  same-open = λ kind b gaps edition n l. ap (λ (o : Verdict State × List ℤ). replied none (answered o)) (demand1 .same-open (kindOf kind) b gaps edition l);
+  same-load = λ kind b gaps edition n file l. ap (λ (o : Verdict State × List ℤ). replied none (answered o)) (demand1 .same-load (kindOf kind) b gaps edition file l);
   unsound = λ l. refl;
   unusable = λ l tick last v out bytes. refl;
 }

@@ -34,7 +34,7 @@ use Rattle.over.proofs.Searching as searching
 use Rattle.storage.proofs.RoundTrips.{loaded-saved, saved-loaded}
 use Rattle.demands.specs.Curve as curve
 use Rattle.demands.specs.Curve.{Curve}
-use Rattle.demands.specs.History.{Reading, arrived, tableAfter}
+use Rattle.demands.specs.History.{FewestTicks, Held, LowestStart, Reading, arrived, tableAfter}
 use Rattle.demands.specs.Served.{Inside, Near}
 use Rattle.fields.specs.declared.Fields.{Fields}
 use Rattle.fields.specs.declared.Named.{Named}
@@ -44,7 +44,7 @@ use Rattle.plain.specs.Plain.{erring, lookupReply, pointing, replying, showing,
 use Rattle.replay.specs.Answers as replay
 use Rattle.answered.specs.Answered.{baseNamed}
 use Rattle.promises.specs.Demands.{Upheld}
-use Rattle.exported.specs.Exported.{Called, ExportedDemand2, Promised, Within, firstDue, wroteAll}
+use Rattle.exported.specs.Exported.{Called, ExportedDemand2, Promised, Within, bucketsOf, firstDue, wroteAll}
 use Rattle.answered.proofs.Answering.{needed-is}
 use Rattle.promises.proofs.Keeping.{demand2, held-small, keeps, kept-same}
 use Rattle.exported.proofs.Answering.{exported-demand1}
@@ -131,6 +131,12 @@ unfolding baseNamed sizeOf
 base-words zero size = refl
 base-words (suc n) size = rw (ne-eqb (suc n) 0 (λ e. omega arith))
 
+-- the rule in words, of the buckets of the rule and by the field
+by-words : (named : Named) (f : Fields) {rs : List Reading} {l : List ℤ} (M : Table → Table → Type 0) → Upheld (openingOf named) rs (stateFrom f) l → (m : ℕ) × Held M (kindOf (named .kind)) (baseNamed (openingOf named .size)) rs (tableOf (stateFrom f) l) m
+    → (m : ℕ) × Held M (kindOf (named .kind)) (f .base) rs (bucketsOf named rs) m
+by-words named f {rs} {l} M k h =
+    (h .0, subst (λ (t : Table). Held M (kindOf (named .kind)) (f .base) rs t (h .0)) (k .buckets) (subst (λ (b : ℕ). Held M (kindOf (named .kind)) b rs (tableOf (stateFrom f) l) (h .0)) (sym (k .base-named)) (h .1)))
+
 pub promises : {named : Named} {rs : List Reading} {f : Fields} {l : List ℤ} → Called named rs f l → Promised named rs f l
 unfolding showing replying answer
 promises {named} {rs} {f} {l} c =
@@ -154,6 +160,10 @@ promises {named} {rs} {f} {l} c =
       kind-named = sym (ap (λ (x : Fields). x .kind) plain) ∙ ap (λ (x : Settings). numberOf (x .kind)) (k .named);
       base-named = k .base-named ∙ base-words (named .by) (named .size);
       gaps-named = k .gaps-named;
+      edition-named = k .edition-named;
+      either-edition = demand2 .either-edition (reaches c .0);
+      first-edition = λ e. by-words named f LowestStart k (demand2 .first-edition (reaches c .0) e);
+      second-edition = λ e. by-words named f FewestTicks k (demand2 .second-edition (reaches c .0) e);
       size = omega (arith, k .size, k .base-named);
       size-of-steps = λ by. omega (arith, k .size, named-steps by);
       runs = k .runs;
@@ -192,6 +202,7 @@ exported-demand2 = record {
         sym (ap (λ (x : Fields). x .kind) (a .plain)) ∙ ap numberOf (n .0),
         n .1 ∙ base-words (named .by) (named .size),
         n .2,
+        n .3,
       );
   same-bytes = λ named file out l known long z.
       let h : Opening = openingOf named in

@@ -100,7 +100,7 @@ module _ {named : Named} where
   reaches (Called.load-refused {l = l} other file c e n) =
       (Reached.load-refused (openingOf other) file (reaches c .0) (refuses none (loaded (openingOf other) file l) e n .outcome), reaches c .1)
   reaches (Called.replay-refused {l = l} other recording c e n) =
-      (Reached.replay-refused (openingOf other .size) (other .gaps) recording (reaches c .0) (recount-refuses (replayOutcome (openingOf other .size) (other .gaps) recording l) e n .1), reaches c .1)
+      (Reached.replay-refused (openingOf other .size) (other .gaps) (other .edition) recording (reaches c .0) (recount-refuses (replayOutcome (openingOf other .size) (other .gaps) (other .edition) recording l) e n .1), reaches c .1)
   reaches (Called.loads {f = f} {l = l} {c = q} {written = written} out room other same c saves z e y) =
       let a = accepts none (loaded (openingOf other) (take (recordWidth * q .buckets) written) room) e y in
       (Reached.loads out room (openingOf other) same (reaches c .0) (writes (saveOutcome (stateFrom f) l out) saves z) (a .outcome), a .plain)

@@ -60,7 +60,7 @@ module _ (named : Named) (l : List ℤ) where
   abbrev Leaves : State → List ℤ → List Landed → Type 0
   Leaves s n ws = Called (lateNamed named) (readingsOf ws) (fieldsOf s) n
 
-  opens : (s : State) (n : List ℤ) → opened (lateOpening (openingOf named .size) (named .gaps)) l ≡ (accepted s, n) → Leaves s n []
+  opens : (s : State) (n : List ℤ) → opened (lateOpening (openingOf named .size) (named .gaps) (named .edition)) l ≡ (accepted s, n) → Leaves s n []
   unfolding kindOf readingsOf replying answer
   opens s n e = Called.opens l (ap (λ (o : Verdict State × List ℤ). replied none (answered o)) e) refl
 
@@ -75,23 +75,23 @@ unfolding kindOf sizeOf recounting replay.answer
 exported-replay = record {
   replays = λ named recording l.
       let size = openingOf named .size in
-      let o = replayOutcome size (named .gaps) recording l in
-      recounts (o .0) (openRows (lateOpening size (named .gaps)) l ++ recordingRows recording) l (o .1) (demand1 .replays size (named .gaps) recording l);
+      let o = replayOutcome size (named .gaps) (named .edition) recording l in
+      recounts (o .0) (openRows (lateOpening size (named .gaps) (named .edition)) l ++ recordingRows recording) l (o .1) (demand1 .replays size (named .gaps) (named .edition) recording l);
   any-kind = λ named recording l. refl;
-  same-replay = λ kind b gaps n recording l. ap (λ (o : Verdict Course × List ℤ). (recounting (replay.answer (o .0)), o .1)) (demand1 .same-replay b gaps recording l);
+  same-replay = λ kind b gaps edition n recording l. ap (λ (o : Verdict Course × List ℤ). (recounting (replay.answer (o .0)), o .1)) (demand1 .same-replay b gaps edition recording l);
   counted = λ named recording l z.
       let size = openingOf named .size in
-      let o = replayOutcome size (named .gaps) recording l in
-      done (λ r rs. 6 * (r .accepted + r .refused) ≡ length recording) (o .0) z (λ c e. omega (arith, replaying.replays .counted size (named .gaps) recording l (o .1) c (ap (λ (v : Verdict Course). (v, o .1)) e)));
+      let o = replayOutcome size (named .gaps) (named .edition) recording l in
+      done (λ r rs. 6 * (r .accepted + r .refused) ≡ length recording) (o .0) z (λ c e. omega (arith, replaying.replays .counted size (named .gaps) (named .edition) recording l (o .1) c (ap (λ (v : Verdict Course). (v, o .1)) e)));
   called = λ named recording l z.
       let size = openingOf named .size in
-      let o = replayOutcome size (named .gaps) recording l in
+      let o = replayOutcome size (named .gaps) (named .edition) recording l in
       done (λ r rs. Called (lateNamed named) rs (r .state) (o .1)) (o .0) z
-      (λ c e. replay-keeps (Leaves named l) (takes named l) size (named .gaps) recording l (opens named l) (ap (λ (v : Verdict Course). (v, o .1)) e));
-  as-many = λ named recording l. as-many (replayOutcome (openingOf named .size) (named .gaps) recording l .0);
+      (λ c e. replay-keeps (Leaves named l) (takes named l) size (named .gaps) (named .edition) recording l (opens named l) (ap (λ (v : Verdict Course). (v, o .1)) e));
+  as-many = λ named recording l. as-many (replayOutcome (openingOf named .size) (named .gaps) (named .edition) recording l .0);
   as-true = λ named recording l k es even same z near.
       let size = openingOf named .size in
-      let o = opened (lateOpening size (named .gaps)) l in
+      let o = opened (lateOpening size (named .gaps) (named .edition)) l in
       let a = accepts none o {r = replying none (answer (o .0))} {m = o .1} refl z in
-      ap (λ (x : Verdict Course × List ℤ). (recounting (replay.answer (x .0)), x .1)) (replaying.replays .as-true size (named .gaps) recording l k es (stateFrom (replying none (answer (o .0)) .state)) (o .1) even same (a .outcome) near .0);
+      ap (λ (x : Verdict Course × List ℤ). (recounting (replay.answer (x .0)), x .1)) (replaying.replays .as-true size (named .gaps) (named .edition) recording l k es (stateFrom (replying none (answer (o .0)) .state)) (o .1) even same (a .outcome) near .0);
 }

@@ -1,7 +1,7 @@
 -- The demands of the exported functions, for a stranger who calls them from C: what each answers and leaves, and what any sequence of them keeps.
 use Prim.Native.Nat.{ℕ, suc, _+_, _-_, _*_, _/_, _≤_, min}
 use mathlib.Core.Path.{_≡_}
-use mathlib.Core.Logic.{_≢_}
+use mathlib.Core.Logic.{_≢_, _⊎_}
 use mathlib.Core.Bool.{true, false, cond}
 use mathlib.Core.List.{List, [], _∷_, _++_, List·Memᴰ}
 use lib.Dec.{eqb, leb}
@@ -22,7 +22,7 @@ use Rattle.storage.specs.Bytes.{AllBytes}
 use Rattle.over.specs.Promise.{First, Over, allOver, answerOf}
 use Rattle.demands.specs.Curve as curve
 use Rattle.demands.specs.Curve.{Curve}
-use Rattle.demands.specs.History.{Reading, arrived, runsOf, tableAfter}
+use Rattle.demands.specs.History.{FewestTicks, Held, LowestStart, Reading, arrived, runsOf, tableAfter}
 use Rattle.demands.specs.Served.{Inside, Near}
 use Rattle.plain.specs.declared.Counted.{Counted}
 use Rattle.fields.specs.declared.Fields.{Fields}
@@ -96,13 +96,13 @@ pub record ExportedDemand1 : Type 0 where
   pub places : (named : Named) (file : List ℕ) (l : List ℤ) → let r = loadReply named file l .0 in r .refusal ≡ 8 → FirstBroken (kindOf (named .kind)) file (r .place)
   -- kind 0 is in order, any other late
   pub kinds : (kindOf 0 ≡ InOrder) × ((n : ℕ) → kindOf (suc n) ≡ Late)
-  -- by 0 the size is B, by any other number C: that is the opening that the rows above speak of
-  pub openings : (kind size gaps n : ℕ) → (openingOf (record { kind = kind; size = size; gaps = gaps; by = 0 }) ≡ record { kind = kindOf kind; size = Steps size; gaps = gaps })
-      × (openingOf (record { kind = kind; size = size; gaps = gaps; by = suc n }) ≡ record { kind = kindOf kind; size = Base size; gaps = gaps })
+  -- by 0 the size is B, by any other number C: that is the opening that the rows above speak of, and its edition the number that is named
+  pub openings : (kind size gaps edition n : ℕ) → (openingOf (record { kind = kind; size = size; gaps = gaps; by = 0; edition = edition }) ≡ record { kind = kindOf kind; size = Steps size; gaps = gaps; edition = edition })
+      × (openingOf (record { kind = kind; size = size; gaps = gaps; by = suc n; edition = edition }) ≡ record { kind = kindOf kind; size = Base size; gaps = gaps; edition = edition })
   -- B is C = 2B: whoever names either gets the same answer, and the same is left, refused or not
-  pub same-open : (kind b gaps n : ℕ) (l : List ℤ) → openReply (record { kind = kind; size = b; gaps = gaps; by = 0 }) l ≡ openReply (record { kind = kind; size = 2 * b; gaps = gaps; by = suc n }) l
-  pub same-load : (kind b gaps n : ℕ) (file : List ℕ) (l : List ℤ)
-      → loadReply (record { kind = kind; size = b; gaps = gaps; by = 0 }) file l ≡ loadReply (record { kind = kind; size = 2 * b; gaps = gaps; by = suc n }) file l
+  pub same-open : (kind b gaps edition n : ℕ) (l : List ℤ) → openReply (record { kind = kind; size = b; gaps = gaps; by = 0; edition = edition }) l ≡ openReply (record { kind = kind; size = 2 * b; gaps = gaps; by = suc n; edition = edition }) l
+  pub same-load : (kind b gaps edition n : ℕ) (file : List ℕ) (l : List ℤ)
+      → loadReply (record { kind = kind; size = b; gaps = gaps; by = 0; edition = edition }) file l ≡ loadReply (record { kind = kind; size = 2 * b; gaps = gaps; by = suc n; edition = edition }) file l
   -- the zeros that a refused open, load or replay hands back are sound in no room, so no reading and no look accepts them
   pub unsound : (l : List ℤ) → sound (stateFrom none) l ≡ false
   pub unusable : (l : List ℤ) (tick last : ℕ) (v : ℤ) (out : List Bucket) (bytes : List ℕ)
@@ -141,7 +141,7 @@ pub data Called (named : Named) : List Reading → Fields → List ℤ → Type 
   open-refused : {rs : List Reading} {f : Fields} {l m : List ℤ} {r : Reply} (other : Named) → Called named rs f l → openReply other l ≡ (r, m) → r .refusal ≢ 0 → Called named rs f m
   load-refused : {rs : List Reading} {f : Fields} {l m : List ℤ} {r : Reply} (other : Named) (file : List ℕ) → Called named rs f l → loadReply other file l ≡ (r, m) → r .refusal ≢ 0 → Called named rs f m
   replay-refused : {rs : List Reading} {f : Fields} {l m : List ℤ} {r : Recount} (other : Named) (recording : List ℕ) → Called named rs f l → replayReply other recording l ≡ (r, m) → r .refusal ≢ 0 → Called named rs f m
-  -- saved into any output, and the bytes that were written loaded into any room by the same settings: late any kind but 0 is the same, the base limit by B or by C, and in order any gaps
+  -- saved into any output, and the bytes that were written loaded into any room by the same settings: late any kind but 0 is the same, the base limit by B or by C, in order any gaps, and the same edition
   loads : {rs : List Reading} {f : Fields} {l m : List ℤ} {c : Counted} {written : List ℕ} {r : Reply} (out : List ℕ) (room : List ℤ) (other : Named)
       → SameSettings (openingOf other) (openingOf named) → Called named rs f l → saveReply f l out ≡ (c, written) → c .refusal ≡ 0
       → loadReply other (take (16 * c .buckets) written) room ≡ (r, m) → r .refusal ≡ 0 → Called named rs (r .state) m
@@ -170,6 +170,11 @@ pub record Promised (named : Named) (rs : List Reading) (f : Fields) (l : List �
   pub kind-named : f .kind ≡ numberOf (kindOf (named .kind))
   pub base-named : f .base ≡ cond (eqb (named .by) 0) (2 * named .size) (named .size)
   pub gaps-named : f .gaps ≡ cond (late (kindOf (named .kind))) (named .gaps) 0
+  pub edition-named : f .edition ≡ named .edition
+  -- demand 2 by edition, in words: the buckets of the rule are those of merges of the cheapest neighbours, in edition 1 with the lowest start, in edition 2 with the fewest ticks and then the lowest start; there is no other edition
+  pub either-edition : (named .edition ≡ 1) ⊎ (named .edition ≡ 2)
+  pub first-edition : named .edition ≡ 1 → (m : ℕ) × Held LowestStart (kindOf (named .kind)) (f .base) rs (bucketsOf named rs) m
+  pub second-edition : named .edition ≡ 2 → (m : ℕ) × Held FewestTicks (kindOf (named .kind)) (f .base) rs (bucketsOf named rs) m
   -- at most C steps, late one more for each unbroken run; 2B where B was named
   pub size : f .used ≤ f .base + cond (late (kindOf (named .kind))) (runsOf rs) 0
   pub size-of-steps : named .by ≡ 0 → f .used ≤ 2 * named .size + cond (late (kindOf (named .kind))) (runsOf rs) 0
@@ -203,9 +208,9 @@ pub record Promised (named : Named) (rs : List Reading) (f : Fields) (l : List �
 pub record ExportedDemand2 : Type 0 where
   -- what is promised is promised of every accepted opening, by B or by C, odd or even
   pub begins : (named : Named) (l : List ℤ) → let o = openReply named l in o .0 .refusal ≡ 0 → Called named [] (o .0 .state) (o .1)
-  -- ndz_load keeps what was named: a late kind is 1, B is kept as 2B, and in order K as 0
+  -- ndz_load keeps what was named: a late kind is 1, B is kept as 2B, in order K as 0, and the edition as it is
   pub load-named : (named : Named) (file : List ℕ) (l : List ℤ) → let r = loadReply named file l .0 in r .refusal ≡ 0
-      → (r .state .kind ≡ numberOf (kindOf (named .kind))) × (r .state .base ≡ cond (eqb (named .by) 0) (2 * named .size) (named .size)) × (r .state .gaps ≡ cond (late (kindOf (named .kind))) (named .gaps) 0)
+      → (r .state .kind ≡ numberOf (kindOf (named .kind))) × (r .state .base ≡ cond (eqb (named .by) 0) (2 * named .size) (named .size)) × (r .state .gaps ≡ cond (late (kindOf (named .kind))) (named .gaps) 0) × (r .state .edition ≡ named .edition)
   -- and what it accepts, ndz_save writes, and nothing behind it
   pub same-bytes : (named : Named) (file out : List ℕ) (l : List ℤ) → AllBytes file → length file ≤ length out → let o = loadReply named file l in o .0 .refusal ≡ 0
       → saveReply (o .0 .state) (o .1) out ≡ (wroteAll (length file / 16), file ++ drop (length file) out)

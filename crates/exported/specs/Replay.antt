@@ -25,7 +25,7 @@ pub record Recounts (rows : List Row) (before after : List ℤ) (r : Recount) : 
 
 -- the settings that are named, of a late trace
 abbrev pub lateNamed : Named → Named
-lateNamed named = record { kind = 1; size = named .size; gaps = named .gaps; by = named .by }
+lateNamed named = record { kind = 1; size = named .size; gaps = named .gaps; by = named .by; edition = named .edition }
 
 -- the accepted records, last first
 unfoldable pub readingsIn : Verdict Course → List Reading
@@ -33,15 +33,15 @@ readingsIn (refused r) = []
 readingsIn (accepted c) = readingsOf (c .landed)
 
 abbrev pub replayReadings : Named → List ℕ → List ℤ → List Reading
-replayReadings named recording l = readingsIn (replayOutcome (openingOf named .size) (named .gaps) recording l .0)
+replayReadings named recording l = readingsIn (replayOutcome (openingOf named .size) (named .gaps) (named .edition) recording l .0)
 
 pub record ExportedReplay : Type 0 where
   -- demand 1, whatever kind is named
-  pub replays : (named : Named) (recording : List ℕ) (l : List ℤ) → let o = replayReply named recording l in Recounts (openRows (record { kind = Late; size = sizeOf (named .by) (named .size); gaps = named .gaps }) l ++ recordingRows recording) l (o .1) (o .0)
+  pub replays : (named : Named) (recording : List ℕ) (l : List ℤ) → let o = replayReply named recording l in Recounts (openRows (record { kind = Late; size = sizeOf (named .by) (named .size); gaps = named .gaps; edition = named .edition }) l ++ recordingRows recording) l (o .1) (o .0)
   pub any-kind : (named : Named) (recording : List ℕ) (l : List ℤ) → replayReply named recording l ≡ replayReply (lateNamed named) recording l
   -- B is C = 2B
-  pub same-replay : (kind b gaps n : ℕ) (recording : List ℕ) (l : List ℤ)
-      → replayReply (record { kind = kind; size = b; gaps = gaps; by = 0 }) recording l ≡ replayReply (record { kind = kind; size = 2 * b; gaps = gaps; by = suc n }) recording l
+  pub same-replay : (kind b gaps edition n : ℕ) (recording : List ℕ) (l : List ℤ)
+      → replayReply (record { kind = kind; size = b; gaps = gaps; by = 0; edition = edition }) recording l ≡ replayReply (record { kind = kind; size = 2 * b; gaps = gaps; by = suc n; edition = edition }) recording l
   -- every record is accepted or refused: six bytes for each
   pub counted : (named : Named) (recording : List ℕ) (l : List ℤ) → let r = replayReply named recording l .0 in r .refusal ≡ 0 → 6 * (r .accepted + r .refused) ≡ length recording
   -- demands 2 and 3: what it leaves is among what calls from ndz_open of a late trace on leave, with its accepted records as the readings, so that all of `Promised` is said of it; and there are as many as it says

@@ -15,7 +15,7 @@ same-kind Late = refl
 
 pub same-state : (s : State) → stateFrom (fieldsOf s) ≡ s
 same-state s = λ i. record {
-  settings = record { kind = same-kind (s .settings .kind) i; base = s .settings .base; gaps = s .settings .gaps };
+  settings = record { kind = same-kind (s .settings .kind) i; base = s .settings .base; gaps = s .settings .gaps; edition = s .settings .edition };
   used = s .used;
   runs = s .runs;
   readings = s .readings;
@@ -27,4 +27,4 @@ same-number zero h = refl
 same-number (suc n) h = omega arith
 
 pub same-fields : (f : Fields) → f .kind ≤ 1 → fieldsOf (stateFrom f) ≡ f
-same-fields f h = λ i. record { kind = same-number (f .kind) h i; base = f .base; gaps = f .gaps; used = f .used; runs = f .runs; readings = f .readings }
+same-fields f h = λ i. record { kind = same-number (f .kind) h i; base = f .base; gaps = f .gaps; used = f .used; runs = f .runs; readings = f .readings; edition = f .edition }

@@ -24,14 +24,14 @@ sizeOf zero size = Steps size
 sizeOf (suc n) size = Base size
 
 abbrev pub openingOf : Named → Opening
-openingOf named = record { kind = kindOf (named .kind); size = sizeOf (named .by) (named .size); gaps = named .gaps }
+openingOf named = record { kind = kindOf (named .kind); size = sizeOf (named .by) (named .size); gaps = named .gaps; edition = named .edition }
 
 abbrev pub stateFrom : Fields → State
-stateFrom f = record { settings = record { kind = kindOf (f .kind); base = f .base; gaps = f .gaps }; used = f .used; runs = f .runs; readings = f .readings }
+stateFrom f = record { settings = record { kind = kindOf (f .kind); base = f .base; gaps = f .gaps; edition = f .edition }; used = f .used; runs = f .runs; readings = f .readings }
 
 abbrev pub fieldsOf : State → Fields
-fieldsOf s = record { kind = numberOf (s .settings .kind); base = s .settings .base; gaps = s .settings .gaps; used = s .used; runs = s .runs; readings = s .readings }
+fieldsOf s = record { kind = numberOf (s .settings .kind); base = s .settings .base; gaps = s .settings .gaps; used = s .used; runs = s .runs; readings = s .readings; edition = s .settings .edition }
 
 -- the state that a refused open, load or replay answers: no reading and no look accepts it
 abbrev pub none : Fields
-none = record { kind = 0; base = 0; gaps = 0; used = 0; runs = 0; readings = 0 }
+none = record { kind = 0; base = 0; gaps = 0; used = 0; runs = 0; readings = 0; edition = 0 }

@@ -8,16 +8,17 @@ use rule::Size;
 use rule::State;
 use trace::Trace;
 
-// What a trace is opened, loaded or replayed with: its kind is 0 in order and any other number late; its size is B where `by` is 0, and C where it is any other number; and K.
+// What a trace is opened, loaded or replayed with: its kind is 0 in order and any other number late; its size is B where `by` is 0, and C where it is any other number; K; and the edition.
 #[repr(C)]
 pub struct Named {
     pub kind: usize,
     pub size: usize,
     pub gaps: usize,
     pub by: usize,
+    pub edition: usize,
 }
 
-// A state: its kind is 0 in order and any other number late; C, K, slots in use, runs, readings.
+// A state: its kind is 0 in order and any other number late; C, K, slots in use, runs, readings; and the edition, which stands last.
 #[repr(C)]
 pub struct Fields {
     pub kind: usize,
@@ -26,6 +27,7 @@ pub struct Fields {
     pub used: usize,
     pub runs: usize,
     pub readings: usize,
+    pub edition: usize,
 }
 
 fn kind_of(number: usize) -> Kind
@@ -66,6 +68,7 @@ pub fn opening_of(named: Named) -> Opening
         kind,
         size,
         gaps: named.gaps,
+        edition: named.edition,
     }
 }
 
@@ -79,6 +82,7 @@ pub fn trace_of(f: Fields) -> Trace
                 kind,
                 base: f.base,
                 gaps: f.gaps,
+                edition: f.edition,
             },
             used: f.used,
             runs: f.runs,
@@ -99,6 +103,7 @@ pub fn fields_of(s: State) -> Fields
         used: s.used,
         runs: s.runs,
         readings: s.readings,
+        edition: settings.edition,
     }
 }
 
@@ -113,5 +118,6 @@ pub fn none() -> Fields
         used: 0,
         runs: 0,
         readings: 0,
+        edition: 0,
     }
 }

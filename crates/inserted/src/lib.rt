@@ -14,31 +14,32 @@ use scan::pass;
 use slots::read;
 
 // The place of the cheapest neighbours among the first `used` slots with the bucket put at place `at`.
-pub fn cheapest_with(room: &[i64], used: usize, at: usize, b: Bucket) -> usize
+pub fn cheapest_with(edition: usize, room: &[i64], used: usize, at: usize, b: Bucket) -> usize
     requires { ⌜ Filled (now room) used × ((at ≤ used) × Filled (numbers b) 1) ⌝ }
-    ensures { λ r. ⌜ r ≡ placeOf (cheapest 0 (putAt at b (slots (now (room .entry)) 0 used))) ⌝ }
+    ensures { λ r. ⌜ r ≡ placeOf (cheapest edition 0 (putAt at b (slots (now (room .entry)) 0 used))) ⌝ }
 {
-    let up_to_it = ending(room, at, b);
+    let up_to_it = ending(edition, room, at, b);
     if at == used {
         return up_to_it.place;
     }
-    let with_next = better(up_to_it, at, b, read(room, at));
-    let all = pass(room, at, used, 1, with_next);
+    let with_next = better(edition, up_to_it, at, b, read(room, at));
+    let all = pass(edition, room, at, used, 1, with_next);
     all.place
 }
 
 // The cheapest neighbours among the first `at` slots with the bucket behind them.
-pub(crate) fn ending(room: &[i64], at: usize, b: Bucket) -> Best
+pub(crate) fn ending(edition: usize, room: &[i64], at: usize, b: Bucket) -> Best
     requires { ⌜ Filled (now room) at ⌝ }
-    ensures { λ r. ⌜ r ≡ better unmet (cheapest 0 (slots (now (room .entry)) 0 at ++ (b ∷ []))) ⌝ }
+    ensures { λ r. ⌜ r ≡ better unmet (cheapest edition 0 (slots (now (room .entry)) 0 at ++ (b ∷ []))) ⌝ }
 {
     let none = Best {
         place: 0,
         cost: ABOVE,
+        ticks: 0,
     };
     if at == 0 {
         return none;
     }
-    let slots = pass(room, 0, at, 0, none);
-    better(slots, at - 1, read(room, at - 1), b)
+    let slots = pass(edition, room, 0, at, 0, none);
+    better(edition, slots, at - 1, read(room, at - 1), b)
 }

@@ -248,9 +248,9 @@ base-opened b l m s =
     let q : stateOf (kept (inOrder b)) [] ≡ s = cc in
     sym (ap (λ (x : State). x .settings .base) q))
 
-late-again : (b k : ℕ) (l : List ℤ) → opened (lateWith (2 * b) k) l ≡ opened (record { kind = Late; size = Steps b; gaps = k }) l
+late-again : (b k : ℕ) (l : List ℤ) → opened (lateWith (2 * b) k) l ≡ opened (record { kind = Late; size = Steps b; gaps = k; edition = 1 }) l
 unfolding baseOf
-late-again b k l = opened-kept (lateWith (2 * b) k) (record { kind = Late; size = Steps b; gaps = k }) refl l
+late-again b k l = opened-kept (lateWith (2 * b) k) (record { kind = Late; size = Steps b; gaps = k; edition = 1 }) refl l
 
 pub lists : Lists
 unfolding output begun obeyed

@@ -41,16 +41,20 @@ lines (b ∷ l) = cond (eqb b lineFeed) ([] ∷ lines l) (begins b (lines l))
 abbrev pub defaultSteps : ℕ
 defaultSteps = 64
 
+-- the edition of published pages
+abbrev pub published : ℕ
+published = 1
+
 abbrev pub inOrder : ℕ → Opening
-inOrder b = record { kind = InOrder; size = Steps b; gaps = 0 }
+inOrder b = record { kind = InOrder; size = Steps b; gaps = 0; edition = published }
 
 -- with the base limit that the state keeps
 abbrev pub lateWith : ℕ → ℕ → Opening
-lateWith c k = record { kind = Late; size = Base c; gaps = k }
+lateWith c k = record { kind = Late; size = Base c; gaps = k; edition = published }
 
 -- the slots of a room for every C and K, and its numbers
 abbrev pub mostSlots : ℕ
-mostSlots = needed (record { kind = Late; base = mostBase; gaps = most })
+mostSlots = needed (record { kind = Late; base = mostBase; gaps = most; edition = published })
 
 abbrev pub roomSize : ℕ
 roomSize = slotWidth * mostSlots

@@ -42,11 +42,11 @@ written x = let e = atEnd x in shown (e .0 .last) (e .0 .lines) (e .1)
 pub record Lists : Type 0 where
   -- where no line names it B is 64: a trace in order with that B is open before the first line
   pub default : (i : List ℕ) → let x = readAll (begun 64 (zeros roomSize)) (lines i) in output i ≡ shown (x .last) (x .count) (x .room)
-  pub opens-first : (b : ℕ) (l : List ℤ) → let o = answered (opened (record { kind = InOrder; size = Steps b; gaps = 0 }) l) in begun b l ≡ record { last = o .0; room = o .1; stage = Stage.Nothing; count = 0 }
+  pub opens-first : (b : ℕ) (l : List ℤ) → let o = answered (opened (record { kind = InOrder; size = Steps b; gaps = 0; edition = 1 }) l) in begun b l ≡ record { last = o .0; room = o .1; stage = Stage.Nothing; count = 0 }
   -- `steps B` opens with that B; and `late K` behind it, or first, where it is 64, opens late with the same B
-  pub by-steps : (s : State) (l : List ℤ) (b : ℕ) → obeyed Stage.Nothing s l (Line.Steps b) ≡ answered (opened (record { kind = InOrder; size = Steps b; gaps = 0 }) l)
-  pub late-by-steps : (g : Stage) (b k : ℕ) (l m : List ℤ) (s : State) → opened (record { kind = InOrder; size = Steps b; gaps = 0 }) l ≡ (accepted s, m) → lateMay g ≡ true
-      → obeyed g s m (Line.Late k) ≡ answered (opened (record { kind = Late; size = Steps b; gaps = k }) m)
+  pub by-steps : (s : State) (l : List ℤ) (b : ℕ) → obeyed Stage.Nothing s l (Line.Steps b) ≡ answered (opened (record { kind = InOrder; size = Steps b; gaps = 0; edition = 1 }) l)
+  pub late-by-steps : (g : Stage) (b k : ℕ) (l m : List ℤ) (s : State) → opened (record { kind = InOrder; size = Steps b; gaps = 0; edition = 1 }) l ≡ (accepted s, m) → lateMay g ≡ true
+      → obeyed g s m (Line.Late k) ≡ answered (opened (record { kind = Late; size = Steps b; gaps = k; edition = 1 }) m)
   -- a line has at most 64 bytes
   pub longest : lineMost ≡ 64
   -- what is shown is the listing of the input

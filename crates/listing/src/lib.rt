@@ -1,6 +1,9 @@
-// The listing as one definition, in specs/, and the same read in pieces; here only the types that the reader has.
+// The listing as one definition, in specs/, and the same read in pieces; here only the types that the reader has, and the edition that it opens with.
 
 use trace::Answer;
+
+// The edition of published pages.
+pub const EDITION: usize = 1;
 
 // Which lines were read: none, `steps B`, `late K`, a reading.
 pub enum Stage {

@@ -4,6 +4,7 @@ ghost use mathlib.Core.Bool.{cond};
 ghost use Rattle.rule.specs.Calls.{late, opened};
 ghost use Rattle.trace.specs.Answers.{answered};
 ghost use Rattle.listing.specs.Listing.{lateMay, obeyed, stepsMay, unreadable};
+use listing::EDITION;
 use listing::Stage;
 use notation::Line;
 use rule::Opening;
@@ -62,12 +63,12 @@ pub fn obey(g: Stage, t: Trace, room: &mut [i64], l: Line) -> Answer
     match l {
         Line::Steps(b) => header(
             steps_may(g),
-            openings::in_order(Size::Steps(b as usize)),
+            openings::in_order(Size::Steps(b as usize), EDITION),
             room,
         ),
         Line::Late(k) => header(
             late_may(g),
-            openings::late(Size::Base(t.state.settings.base), k as usize),
+            openings::late(Size::Base(t.state.settings.base), k as usize, EDITION),
             room,
         ),
         Line::Alone(v) => {

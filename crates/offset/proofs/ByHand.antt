@@ -12,9 +12,9 @@ use Rattle.rule.proofs.Ruling.{and-left, and-right}
 use Rattle.storage.specs.Bytes.{AllBytes}
 use native.Mathlib.Omega.{arith}
 use Rattle.rule.specs.Bucket.{distance, larger, lesser, middle}
-use Rattle.rule.specs.Table.{accept, cheaper, cheapest, choice, holding, holds, insert, lastEnd, limitOver, merge, mergeAt, mergeOf, readings, runs, runsAfter, settle, settleIn, worst}
+use Rattle.rule.specs.Table.{ahead, accept, cheaper, cheapest, choice, holding, holds, insert, lastEnd, limitOver, merge, mergeAt, mergeOf, readings, runs, runsAfter, settle, settleIn, worst, weight}
 use Rattle.rule.specs.Rules.{broken, equal, faultAt, firstFalse, firstFault, follows, isWhole, placeOr, ruled, rules}
-use Rattle.rule.specs.Room.{allOf, allZero, bounded, clauses, flat, gapsGood, laid, ranged, restZero, roomy, runsAllowed, signed, slot, slotRanged, slots, sound, within, zeros}
+use Rattle.rule.specs.Room.{allOf, allZero, bounded, clauses, editionGood, flat, gapsGood, laid, ranged, restZero, roomy, runsAllowed, signed, slot, slotRanged, slots, sound, within, zeros}
 use Rattle.rule.specs.Bytes.{bits, bytes, reading, recordAt, records, recordsOf, saved, savedRecord, wordAt}
 use Rattle.rule.specs.Calls.{admitted, baseOf, checked, counted, fileVerdict, found, foundOf, gapsKept, grown, isHeld, late, lateVerdict, lookupOutcome, measured, nextVerdict, onward, sizeGood, traced, worstOutcome, writeVerdict, wrote}
 use Rattle.series.specs.Counts.{orCounted, tallied}
@@ -65,7 +65,7 @@ fed-ends d v e f =
     each (nexts-too v e f) (each (lates-too 9 v e f) (each (nexts-many-too (v ∷ []) fit) (each (lates-many-too (9 ∷ []) (v ∷ []) fit) none)))
 
 pub by-hand : ByHand
-unfolding logger.after frameAt frames goneOn higher newest replayVerdict replayed signedTurn tickFrom wrapped bytesOf played recount distance larger lesser middle accept cheaper cheapest choice holding holds insert lastEnd limitOver merge mergeAt mergeOf readings runs runsAfter settle settleIn worst broken equal faultAt firstFalse firstFault follows isWhole placeOr ruled rules allOf allZero bounded clauses flat gapsGood laid ranged restZero roomy runsAllowed slot slotRanged slots sound within zeros bits bytes reading recordAt records recordsOf saved savedRecord wordAt admitted baseOf sizeGood checked counted fileVerdict found foundOf gapsKept grown isHeld late lateVerdict lookupOutcome nextVerdict traced writeVerdict wrote firstOver over searchOutcome sought soughtOf touches measured worstOutcome onward after answer answers begun kept left part fedFrom orEnd timed orCounted tallied
+unfolding logger.after frameAt frames goneOn higher newest replayVerdict replayed signedTurn tickFrom wrapped bytesOf played recount distance larger lesser middle accept ahead weight cheaper cheapest choice holding holds insert lastEnd limitOver merge mergeAt mergeOf readings runs runsAfter settle settleIn worst broken equal faultAt firstFalse firstFault follows isWhole placeOr ruled rules allOf allZero bounded clauses editionGood flat gapsGood laid ranged restZero roomy runsAllowed slot slotRanged slots sound within zeros bits bytes reading recordAt records recordsOf saved savedRecord wordAt admitted baseOf sizeGood checked counted fileVerdict found foundOf gapsKept grown isHeld late lateVerdict lookupOutcome nextVerdict traced writeVerdict wrote firstOver over searchOutcome sought soughtOf touches measured worstOutcome onward after answer answers begun kept left part fedFrom orEnd timed orCounted tallied
 by-hand =
     record {
       near-ground = refl;
@@ -78,6 +78,8 @@ by-hand =
       files-with-offset = refl;
       replay-near-ground = refl;
       replay-with-offset = refl;
+      edition-near-ground = refl;
+      edition-with-offset = refl;
       tallied = refl;
       late-tallied = refl;
       many-tallied = refl;
@@ -85,7 +87,8 @@ by-hand =
       calls-higher = each (opens-too _ _ _ refl) (each (nexts-too (negsuc 2) refl refl) (each (nexts-too (pos 0) refl refl) (each (nexts-too (pos 50) refl refl) (each (lookups-too _) (each (searches-too 1 9 (pos 0)) (each (searches-too 0 9 (pos 50)) (each (searches-too 0 1 (pos 50)) (each worsts-too (each (rows-too _ _ refl) (each (saves-too _ _ refl) (each (loads-too _ _ _ _ refl) (each (lookups-too _) (each (lookups-too _) (each (nexts-too (pos 50) refl refl) (each worsts-too (each (rows-too _ _ refl) (each (opens-too _ _ _ refl) (each (loads-too _ _ _ _ refl) none))))))))))))))))));
       late-higher = each worsts-too (each (searches-too 0 9 (negsuc 2)) (each (opens-too _ _ _ refl) (each (lates-too 5 (negsuc 2) refl refl) (each (lates-too 5 (pos 50) refl refl) (each (nexts-too (pos 50) refl refl) (each (saves-too _ _ refl) (each (lates-too 3 (pos 50) refl refl) (each (opens-too _ _ _ refl) (each (saves-too _ _ refl) (each (rows-too _ _ refl) (each (searches-too 3 5 (pos 50)) (each (searches-too 4 5 (negsuc 2)) (each (searches-too 4 4 (negsuc 2)) (each (searches-too 9 16777216 (negsuc 2)) (each (saves-too _ _ refl) (each (loads-too _ _ _ _ refl) (each (lookups-too _) (each (loads-too _ _ _ _ refl) (each (lookups-too _) (each (lookups-too _) (each (lates-too 6 (pos 50) refl refl) (each (lates-too 7 (negsuc 2) refl refl) (each (lates-too 8 (negsuc 2) refl refl) (each (saves-too _ _ refl) (each (loads-too _ _ _ _ refl) none)))))))))))))))))))))))));
       many-higher = each (nexts-many-too (negsuc 2 ∷ []) (fit-all (pos 1001) _ refl)) (each (opens-too _ _ _ refl) (each (nexts-many-too (negsuc 2 ∷ pos 0 ∷ pos 50 ∷ []) (fit-all (pos 1001) _ refl)) (each (lookups-too _) (each (nexts-many-too [] (fit-all (pos 1001) _ refl)) (each (lates-many-too _ (pos 50 ∷ []) (fit-all (pos 1001) _ refl)) (each (opens-too _ _ _ refl) (each (lates-many-too _ (pos 0 ∷ negsuc 2 ∷ pos 50 ∷ pos 50 ∷ []) (fit-all (pos 1001) _ refl)) (each (lates-many-too _ (pos 50 ∷ pos 50 ∷ negsuc 2 ∷ []) (fit-all (pos 1001) _ refl)) (each (rows-too _ _ refl) (each (nexts-many-too (negsuc 2 ∷ pos 0 ∷ []) (fit-all (pos 1001) _ refl)) none))))))))));
-      replay-higher = let whole = recording-moves (recorded []) (recordedMoved []) refl refl refl in let more = recording-moves (recorded (1 ∷ [])) (recordedMoved (1 ∷ [])) refl refl refl in each (replays-too _ _ _ _ _ _ whole refl) (each (lookups-too _) (each (lookups-too _) (each (lates-too 32770 (pos 50) refl refl) (each (replays-too _ _ _ _ _ _ more refl) (each (replays-too _ _ _ _ _ _ whole refl) (each (lates-too 32769 (pos 50) refl refl) (each (lookups-too _) (each (lates-too 32771 (pos 50) refl refl) (each (rows-too _ _ refl) (each (saves-too _ _ refl) (each (replays-too _ _ _ _ _ _ (recording-moves [] [] refl refl refl) refl) (each (lookups-too _) (each (loads-too _ _ _ _ refl) none)))))))))))));
+      replay-higher = let whole = recording-moves (recorded []) (recordedMoved []) refl refl refl in let more = recording-moves (recorded (1 ∷ [])) (recordedMoved (1 ∷ [])) refl refl refl in each (replays-too _ _ _ _ _ _ _ whole refl) (each (lookups-too _) (each (lookups-too _) (each (lates-too 32770 (pos 50) refl refl) (each (replays-too _ _ _ _ _ _ _ more refl) (each (replays-too _ _ _ _ _ _ _ whole refl) (each (lates-too 32769 (pos 50) refl refl) (each (lookups-too _) (each (lates-too 32771 (pos 50) refl refl) (each (rows-too _ _ refl) (each (saves-too _ _ refl) (each (replays-too _ _ _ _ _ _ _ (recording-moves [] [] refl refl refl) refl) (each (lookups-too _) (each (loads-too _ _ _ _ refl) none)))))))))))));
+      edition-higher = each (opens-too _ _ _ refl) (each (nexts-many-too (negsuc 2 ∷ negsuc 2 ∷ negsuc 2 ∷ negsuc 2 ∷ []) (fit-all (pos 1001) _ refl)) (each (rows-too _ _ refl) (each (opens-too _ _ _ refl) (each (saves-too _ _ refl) (each (loads-too _ _ _ _ refl) (each (nexts-too (negsuc 2) refl refl) (each (rows-too _ _ refl) (each (replays-too _ _ _ _ _ _ _ (recording-moves [] [] refl refl refl) refl) none))))))));
       no-files = moved-empty;
       files-moved = moved-each;
       recording-raised = refl;

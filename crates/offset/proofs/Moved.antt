@@ -14,7 +14,7 @@ use Rattle.rule.specs.declared.Kind.the-variants.{InOrder, Late}
 use Rattle.rule.specs.declared.Settings.{Settings}
 use Rattle.rule.specs.Bucket.{distance, end, error, larger, lesser, level, middle, neighbours, spread, union}
 use Rattle.rule.specs.Rules.{broken, equal, firstFault, follows, rules}
-use Rattle.rule.specs.Table.{Table, Choice, nothing, pair, accept, cheapest, choice, holding, holds, insert, lastEnd, limit, merge, mergeAt, mergeOf, readings, runs, runsAfter, settle, settleIn, single, worst}
+use Rattle.rule.specs.Table.{Table, Choice, nothing, pair, accept, cheapest, choice, holding, holds, insert, lastEnd, limit, merge, mergeAt, mergeOf, readings, runs, runsAfter, settle, settleIn, single, worst, weight}
 use Rattle.over.specs.Search.{firstOver, over, touches}
 use Rattle.logger.specs.Replay.{Landed, higher, newest, tickAfter, tickFrom}
 use Rattle.offset.specs.Offset.{moved, movedAll, movedLanded}
@@ -54,15 +54,15 @@ module _ (d : ℤ) where
   pub error-moved : (b : Bucket) → error (moved d b) ≡ error b
   error-moved b = rw (level-moved b, distance-moved (b .largest) (level b), distance-moved (level b) (b .least))
 
-  choice-moved : (i : ℕ) (a b : Bucket) → choice i (moved d a) (moved d b) ≡ choice i a b
-  unfolding choice
-  choice-moved i a b = ap (λ (s : ℕ). cond (neighbours a b) (pair i s) nothing) (ap spread (union-moved a b) ∙ spread-moved (union a b))
+  choice-moved : (e i : ℕ) (a b : Bucket) → choice e i (moved d a) (moved d b) ≡ choice e i a b
+  unfolding choice weight
+  choice-moved e i a b = ap (λ (s : ℕ). cond (neighbours a b) (pair i s (weight e (union a b))) nothing) (ap spread (union-moved a b) ∙ spread-moved (union a b))
 
-  cheapest-moved : (i : ℕ) (t : Table) → cheapest i (movedAll d t) ≡ cheapest i t
+  cheapest-moved : (e i : ℕ) (t : Table) → cheapest e i (movedAll d t) ≡ cheapest e i t
   unfolding cheapest
-  cheapest-moved i [] = refl
-  cheapest-moved i (a ∷ []) = refl
-  cheapest-moved i (a ∷ b ∷ t) = rw (choice-moved i a b, cheapest-moved (suc i) (b ∷ t))
+  cheapest-moved e i [] = refl
+  cheapest-moved e i (a ∷ []) = refl
+  cheapest-moved e i (a ∷ b ∷ t) = rw (choice-moved e i a b, cheapest-moved e (suc i) (b ∷ t))
 
   merge-at-moved : (i : ℕ) (t : Table) → mergeAt i (movedAll d t) ≡ movedAll d (mergeAt i t)
   unfolding mergeAt
@@ -74,11 +74,11 @@ module _ (d : ℤ) where
   merge-of-moved : (q : Choice) (t : Table) → mergeOf q (movedAll d t) ≡ movedAll d (mergeOf q t)
   unfolding mergeOf
   merge-of-moved nothing t = refl
-  merge-of-moved (pair i s) t = merge-at-moved i t
+  merge-of-moved (pair i s w) t = merge-at-moved i t
 
-  merge-moved : (t : Table) → merge (movedAll d t) ≡ movedAll d (merge t)
+  merge-moved : (e : ℕ) (t : Table) → merge e (movedAll d t) ≡ movedAll d (merge e t)
   unfolding merge
-  merge-moved t = rw (cheapest-moved 0 t) (merge-of-moved (cheapest 0 t) t)
+  merge-moved e t = rw (cheapest-moved e 0 t) (merge-of-moved (cheapest e 0 t) t)
 
   pub length-moved : (t : Table) → length (movedAll d t) ≡ length t
   length-moved [] = refl
@@ -108,7 +108,7 @@ module _ (d : ℤ) where
   unfolding settleIn
   settle-in-moved zero s t = refl
   settle-in-moved (suc n) s t =
-      rw (length-moved t, runs-moved t, merge-moved t, settle-in-moved n s (merge t))
+      rw (length-moved t, runs-moved t, merge-moved (s .edition) t, settle-in-moved n s (merge (s .edition) t))
       (by-test (leb (length t) (limit s (runs t))) (λ h. rw h) (λ h. rw h))
 
   pub settle-moved : (s : Settings) (t : Table) → settle s (movedAll d t) ≡ movedAll d (settle s t)

@@ -74,10 +74,10 @@ load-leaves : (g : Opening) (f : List ℕ) (l : List ℤ) → AllBytes f → Lea
 load-leaves g f l known = load-left g f l known (loaded g f l .0) refl
 
 -- so does the opening of a replay
-replay-leaves : (size : Size) (gaps : ℕ) (r : List ℕ) (l : List ℤ) → let k = keptAs (lateOpening size gaps) in LeavesSound (traced k l (replayVerdict size gaps r l))
+replay-leaves : (size : Size) (gaps edition : ℕ) (r : List ℕ) (l : List ℤ) → let k = keptAs (lateOpening size gaps edition) in LeavesSound (traced k l (replayVerdict size gaps edition r l))
 unfolding replayVerdict checked
-replay-leaves size gaps r l =
-    let g : Opening = lateOpening size gaps in
+replay-leaves size gaps edition r l =
+    let g : Opening = lateOpening size gaps edition in
     let no = refused-leaves (keptAs g) l in
     by-test (eqb (length r % 6) 0) (λ h. rw h (open-leaves g l)) (λ h. rw h (past-admission g l (refused Refusal.Length) (Leaves (keptAs g) l) no (λ _. no Refusal.Length)))
 
@@ -325,10 +325,10 @@ module _ (d : ℤ) where
       let e : Course = fedAt (beside c m) (landing (beside c m) (movedFrame d f)) in
       subst (λ (x : Course). Runs (replayed k fs) (replayed x (map (movedFrame d) fs))) (sym (b .same)) (all-runs fs k (e .room) (b .twin) (λ v i. h v (List·Memᴰ·tail i)))
 
-  replay-verdict-moved : (size : Size) (gaps : ℕ) (r q : List ℕ) (l m : List ℤ) → length q ≡ length r → length m ≡ length l → replayVerdict size gaps q m ≡ movedVerdict (replayVerdict size gaps r l)
+  replay-verdict-moved : (size : Size) (gaps edition : ℕ) (r q : List ℕ) (l m : List ℤ) → length q ≡ length r → length m ≡ length l → replayVerdict size gaps edition q m ≡ movedVerdict (replayVerdict size gaps edition r l)
   unfolding replayVerdict movedVerdict
-  replay-verdict-moved size gaps r q l m long as-long =
-      rw long (admitted-moved (lateOpening size gaps) l m as-long _ _ (checked-moved _ (accepted []) (accepted []) refl))
+  replay-verdict-moved size gaps edition r q l m long as-long =
+      rw long (admitted-moved (lateOpening size gaps edition) l m as-long _ _ (checked-moved _ (accepted []) (accepted []) refl))
 
   -- both are refused alike, or both go on
   data Plays : Verdict Course × List ℤ → Verdict Course × List ℤ → Type 0 where
@@ -344,14 +344,14 @@ module _ (d : ℤ) where
       let n = laid (needed g) (movedAll d t) m in
       both (replayed c fs) _ (subst (λ (s : State). Runs (replayed c fs) (replayed (logger.begun s n) (map (movedFrame d) fs))) (sym (state-moved g t)) (all-runs fs c n (laid-twin g t l m p q) h))
 
-  replay-plays : (size : Size) (gaps : ℕ) (r q : List ℕ) (l m : List ℤ) → RecordingMoved d r q → length m ≡ length l → Plays (replayOutcome size gaps r l) (replayOutcome size gaps q m)
-  replay-plays size gaps r q l m moves long =
-      let k = keptAs (lateOpening size gaps) in
+  replay-plays : (size : Size) (gaps edition : ℕ) (r q : List ℕ) (l m : List ℤ) → RecordingMoved d r q → length m ≡ length l → Plays (replayOutcome size gaps edition r l) (replayOutcome size gaps edition q m)
+  replay-plays size gaps edition r q l m moves long =
+      let k = keptAs (lateOpening size gaps edition) in
       let fs : List Frame = framesOf r in
-      let o = traced k l (replayVerdict size gaps r l) in
+      let o = traced k l (replayVerdict size gaps edition r l) in
       rw (moves .records)
       (subst (λ (x : Verdict Table). LeavesSound (traced k m x) → let p = traced k m x in Plays (goneOn fs (o .0) (o .1)) (goneOn (map (movedFrame d) fs) (p .0) (p .1)))
-      (sym (replay-verdict-moved size gaps r q l m (moves .long) long)) (gone-plays fs (moves .fit) k l m _ (replay-leaves size gaps r l)) (replay-leaves size gaps q m))
+      (sym (replay-verdict-moved size gaps edition r q l m (moves .long) long)) (gone-plays fs (moves .fit) k l m _ (replay-leaves size gaps edition r l)) (replay-leaves size gaps edition q m))
 
   plays-same : {o q : Verdict Course × List ℤ} → Plays o q → landedIn (q .0) ≡ map (movedLanded d) (landedIn (o .0))
   unfolding landedIn
@@ -461,7 +461,7 @@ module _ (d : ℤ) where
         let too = getD gs i [] in
         let moves = a .files i in
         along k l n _ _ (admitted-moved g l n long (fileVerdict k f) (fileVerdict k too) (file-verdict-moved k f too moves)) (load-leaves g f l (moves .bytes)) (load-leaves g too n (moves .bytes-too))
-    step (replays-too size gaps r q l n moves long) = played-goes (replay-plays size gaps r q l n moves long)
+    step (replays-too size gaps edition r q l n moves long) = played-goes (replay-plays size gaps edition r q l n moves long)
 
   -- ---- any calls
 
@@ -520,9 +520,9 @@ all-higher d (caller.worsts ∷ xs) f = each worsts-too (all-higher d xs f)
 all-higher d (caller.rows out ∷ xs) f = each (rows-too out out refl) (all-higher d xs f)
 all-higher d (caller.saves out ∷ xs) f = each (saves-too out out refl) (all-higher d xs f)
 all-higher d (caller.loads g i l ∷ xs) f = each (loads-too g i l l refl) (all-higher d xs f)
-all-higher d (caller.replays size gaps r l ∷ xs) f =
+all-higher d (caller.replays size gaps edition r l ∷ xs) f =
     let moves = recording-raised d r (λ v m. f v (Memᴰ·append-left (readingsIn xs) m)) in
-    each (replays-too size gaps r _ l l moves refl) (all-higher d xs (λ v m. f v (Memᴰ·append-right (readingsOf r) m)))
+    each (replays-too size gaps edition r _ l l moves refl) (all-higher d xs (λ v m. f v (Memᴰ·append-right (readingsOf r) m)))
 
 -- ---- the promise
 
@@ -533,15 +533,15 @@ twice-level b =
     let m = level b in
     (omega (whole, middle-up a z, middle-down a z, sum m m, one-side (a +ℤ z), one-side m), omega (whole, middle-up a z, middle-down a z, sum m m, sum (m +ℤ m) (pos 1), one-side (a +ℤ z), one-side m))
 
-replay-answers : (c : Caller) (size : Size) (gaps : ℕ) (r : List ℕ) (l m : List ℤ) (k : Course) → replayOutcome size gaps r l ≡ (accepted k, m)
-    → (answer c (caller.replays size gaps r l) ≡ caller.recounted (accepted (k .state, length (k .landed), k .refused))) × (left c (caller.replays size gaps r l) ≡ record { state = k .state; room = m; tally = c .tally; files = c .files })
+replay-answers : (c : Caller) (size : Size) (gaps edition : ℕ) (r : List ℕ) (l m : List ℤ) (k : Course) → replayOutcome size gaps edition r l ≡ (accepted k, m)
+    → (answer c (caller.replays size gaps edition r l) ≡ caller.recounted (accepted (k .state, length (k .landed), k .refused))) × (left c (caller.replays size gaps edition r l) ≡ record { state = k .state; room = m; tally = c .tally; files = c .files })
 unfolding answer left recount played
-replay-answers c size gaps r l m k e = (ap (λ (o : Verdict Course × List ℤ). caller.recounted (recount (o .0))) e, ap (λ (o : Verdict Course × List ℤ). played c (o .0) (o .1)) e)
+replay-answers c size gaps edition r l m k e = (ap (λ (o : Verdict Course × List ℤ). caller.recounted (recount (o .0))) e, ap (λ (o : Verdict Course × List ℤ). played c (o .0) (o .1)) e)
 
-replay-refused : (c : Caller) (size : Size) (gaps : ℕ) (r : List ℕ) (l m : List ℤ) (x : Refusal) → replayOutcome size gaps r l ≡ (refused x, m)
-    → (answer c (caller.replays size gaps r l) ≡ caller.recounted (refused x)) × (left c (caller.replays size gaps r l) ≡ c)
+replay-refused : (c : Caller) (size : Size) (gaps edition : ℕ) (r : List ℕ) (l m : List ℤ) (x : Refusal) → replayOutcome size gaps edition r l ≡ (refused x, m)
+    → (answer c (caller.replays size gaps edition r l) ≡ caller.recounted (refused x)) × (left c (caller.replays size gaps edition r l) ≡ c)
 unfolding answer left recount played
-replay-refused c size gaps r l m x e = (ap (λ (o : Verdict Course × List ℤ). caller.recounted (recount (o .0))) e, ap (λ (o : Verdict Course × List ℤ). played c (o .0) (o .1)) e)
+replay-refused c size gaps edition r l m x e = (ap (λ (o : Verdict Course × List ℤ). caller.recounted (recount (o .0))) e, ap (λ (o : Verdict Course × List ℤ). played c (o .0) (o .1)) e)
 
 pub offset : Offset
 unfolding after answer answers left readingsIn
@@ -565,14 +565,14 @@ offset =
       late-feeds = λ tick v xs. refl;
       next-many-feeds = λ vs xs. refl;
       late-many-feeds = λ ts vs xs. refl;
-      replay-feeds = λ size gaps r l xs. refl;
+      replay-feeds = λ size gaps edition r l xs. refl;
       search-any = λ d first last bar. searches-too first last bar;
       search-same = λ d c e a first last bar. ap (λ (s : State). searchOutcome s (e .room) first last (bar +ℤ d)) (a .state) ∙ search-same d (c .state) (c .room) (e .room) (alike-along d c e a .twin) first last bar;
       nexts-many = λ c vs. (refl, refl);
       lates-many = λ c ts vs. (refl, refl);
       next-many-same = λ d c e a vs h. ap (λ (s : State). reach (nextMany s (e .room) (movedReadings d vs))) (a .state) ∙ many-same d (next-ends d (c .state) (c .room) (e .room) (alike-along d c e a .twin) (c .tally) vs h);
       late-many-same = λ d c e a ts vs h. ap (λ (s : State). reach (lateMany s (e .room) (timed ts (movedReadings d vs)))) (a .state) ∙ many-same d (late-ends d (c .state) (c .room) (e .room) (alike-along d c e a .twin) (c .tally) ts vs h);
-      replay-same = λ d size gaps r q l m moves long. plays-same d (replay-plays d size gaps r q l m moves long);
+      replay-same = λ d size gaps edition r q l m moves long. plays-same d (replay-plays d size gaps edition r q l m moves long);
       replay-answers = replay-answers;
       replay-refused = replay-refused;
       raised-bytes = raised-bytes;

@@ -11,7 +11,7 @@ use Rattle.rule.specs.declared.Settings.{Settings}
 use Rattle.rule.specs.declared.Size.the-variants.{Steps, Base}
 use Rattle.rule.specs.declared.State.{State}
 use Rattle.rule.specs.declared.Written.{Written}
-use Rattle.rule.specs.ByHand.{bucket, gappy, gappyBase, inOrder, ofBase}
+use Rattle.rule.specs.ByHand.{bucket, edited, gappy, gappyBase, inOrder, ofBase, second}
 use Rattle.rule.specs.Calls.{accepted, refused}
 use Rattle.over.specs.declared.Sought.{Sought}
 use Rattle.rule.specs.declared.Measured.{Measured}
@@ -208,18 +208,18 @@ recordedMoved rest = recording (230 ∷ 3 ∷ 0 ∷ 0 ∷ []) (233 ∷ 3 ∷ 0 �
 -- with C = 1 and K = 2: three records are accepted; late readings go on from there, and past two replays that are refused; a replay of no records takes the trace's place, and what was saved is loaded
 abbrev pub replayCalls : ℕ → (List ℕ → List ℕ) → ℤ → List Call
 replayCalls n r z =
-    replays (Base 1) 2 (r []) (replicate 16 (pos n))
+    replays (Base 1) 2 1 (r []) (replicate 16 (pos n))
     ∷ lookups 32768
     ∷ lookups 32772
     ∷ lates 32770 z
-    ∷ replays (Base 1) 2 (r (1 ∷ [])) (replicate 16 (pos n))
-    ∷ replays (Base 1) 2 (r []) (replicate 15 (pos n))
+    ∷ replays (Base 1) 2 1 (r (1 ∷ [])) (replicate 16 (pos n))
+    ∷ replays (Base 1) 2 1 (r []) (replicate 15 (pos n))
     ∷ lates 32769 z
     ∷ lookups 32769
     ∷ lates 32771 z
     ∷ rows (replicate 4 (bucket n n (pos n) (pos n)))
     ∷ saves (replicate 64 n)
-    ∷ replays (Steps 1) 1 [] (replicate 16 (pos n))
+    ∷ replays (Steps 1) 1 1 [] (replicate 16 (pos n))
     ∷ lookups 32768
     ∷ loads (gappy (Base 1) 2) 0 (replicate 16 (pos n))
     ∷ []
@@ -243,6 +243,35 @@ toldReplay level least largest last =
     ∷ traced (accepted (now (gappyBase 1 2) 2 1 5))
     ∷ []
 
+-- ---- editions
+
+-- with B = 1, a reading four times in edition 2; edition 3 is refused, and what was saved goes on in edition 1; edition 0 is refused
+abbrev pub editionCalls : ℕ → ℤ → List Call
+editionCalls n x =
+    opens (edited 2 (inOrder (Steps 1))) (replicate 12 (pos n))
+    ∷ nextsMany (x ∷ x ∷ x ∷ x ∷ [])
+    ∷ rows (replicate 2 (bucket n n (pos n) (pos n)))
+    ∷ opens (edited 3 (inOrder (Steps 1))) (replicate 12 (pos n))
+    ∷ saves (replicate 32 n)
+    ∷ loads (inOrder (Steps 1)) 0 (replicate 12 (pos n))
+    ∷ nexts x
+    ∷ rows (replicate 2 (bucket n n (pos n) (pos n)))
+    ∷ replays (Base 1) 2 0 [] (replicate 16 (pos n))
+    ∷ []
+
+abbrev pub toldEdition : ℤ → List Answer
+toldEdition x =
+    traced (accepted (now (second (ofBase 2)) 0 0 0))
+    ∷ reached (now (second (ofBase 2)) 2 1 4) 4 none
+    ∷ drawn (Written.Buckets 2) (bucket 0 2 x x ∷ bucket 2 2 x x ∷ [])
+    ∷ traced (refused Refusal.Edition)
+    ∷ filed (Written.Buckets 2)
+    ∷ traced (accepted (now (ofBase 2) 2 1 4))
+    ∷ traced (accepted (now (ofBase 2) 2 1 5))
+    ∷ drawn (Written.Buckets 2) (bucket 0 4 x x ∷ bucket 4 1 x x ∷ [])
+    ∷ recounted (refused Refusal.Edition)
+    ∷ []
+
 -- one reading, by each of the calls that feed one or many
 abbrev pub ends : ℤ → List Call
 ends v = nexts v ∷ lates 9 v ∷ nextsMany (v ∷ []) ∷ latesMany (9 ∷ []) (v ∷ []) ∷ []
@@ -258,6 +287,8 @@ pub record ByHand : Type 0 where
   pub files-with-offset : answers (fresh filesMoved) fileCalls ≡ toldFiles
   pub replay-near-ground : answers (fresh []) (replayCalls 7 recorded (pos 50)) ≡ toldReplay (negsuc 1) (negsuc 2) (pos 0) (pos 50)
   pub replay-with-offset : answers (fresh []) (replayCalls 9 recordedMoved (pos 1051)) ≡ toldReplay (pos 999) (pos 998) (pos 1001) (pos 1051)
+  pub edition-near-ground : answers (fresh []) (editionCalls 7 (negsuc 2)) ≡ toldEdition (negsuc 2)
+  pub edition-with-offset : answers (fresh []) (editionCalls 9 (pos 998)) ≡ toldEdition (pos 998)
   -- the tally counts readings and merges, and neither an open nor a load nor a replay changes it
   pub tallied : after (fresh []) (calls 7 (negsuc 2) (pos 0) (pos 50)) .tally ≡ record { accepted = 4; refused = 0; merges = 2 }
   pub late-tallied : after (fresh []) (lateCalls 7 (negsuc 2) (pos 50)) .tally ≡ record { accepted = 5; refused = 2; merges = 1 }
@@ -268,6 +299,7 @@ pub record ByHand : Type 0 where
   pub late-higher : AllHigher (pos 1001) (lateCalls 7 (negsuc 2) (pos 50)) (lateCalls 9 (pos 998) (pos 1051))
   pub many-higher : AllHigher (pos 1001) (manyCalls 7 (negsuc 2) (pos 0) (pos 50)) (manyCalls 9 (pos 998) (pos 1001) (pos 1051))
   pub replay-higher : AllHigher (pos 1001) (replayCalls 7 recorded (pos 50)) (replayCalls 9 recordedMoved (pos 1051))
+  pub edition-higher : AllHigher (pos 1001) (editionCalls 7 (negsuc 2)) (editionCalls 9 (pos 998))
   pub no-files : FilesMoved (pos 1001) [] []
   pub files-moved : FilesMoved (pos 1001) files filesMoved
   -- with its readings 1,001 more the first recording is the second, a rest of one byte kept

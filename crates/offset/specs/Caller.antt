@@ -44,7 +44,7 @@ pub data Call : Type 0 where
   rows : List Bucket → Call
   saves : List ℕ → Call
   loads : Opening → ℕ → List ℤ → Call
-  replays : (size : Size) (gaps : ℕ) (recording : List ℕ) (room : List ℤ) → Call
+  replays : (size : Size) (gaps edition : ℕ) (recording : List ℕ) (room : List ℤ) → Call
 
 -- of open, next, late and load; of many readings, the state to go on with, how many were accepted and the refusal that ended it, if one did; of lookup; of the search; of the worst error; of row, with the buckets that it wrote; of save; of replay, with two counts
 pub data Answer : Type 0 where
@@ -87,7 +87,7 @@ answer c worsts = measured (worstOutcome (c .state) (c .room))
 answer c (rows out) = let o = rowOutcome (c .state) (c .room) out in drawn (o .0) (part 1 (o .0) (o .1))
 answer c (saves out) = filed (saveOutcome (c .state) (c .room) out .0)
 answer c (loads g i l) = traced (loaded g (fileAt c i) l .0)
-answer c (replays size gaps recording l) = recounted (recount (replayOutcome size gaps recording l .0))
+answer c (replays size gaps edition recording l) = recounted (recount (replayOutcome size gaps edition recording l .0))
 
 -- after a reading, which the tally counts
 abbrev pub fed : Caller → Verdict State × List ℤ → Caller
@@ -125,7 +125,7 @@ left c worsts = c
 left c (rows out) = c
 left c (saves out) = let o = saveOutcome (c .state) (c .room) out in kept c (o .0) (o .1)
 left c (loads g i l) = let o = loaded g (fileAt c i) l in begun c (o .0) (o .1)
-left c (replays size gaps recording l) = let o = replayOutcome size gaps recording l in played c (o .0) (o .1)
+left c (replays size gaps edition recording l) = let o = replayOutcome size gaps edition recording l in played c (o .0) (o .1)
 
 -- the answers to calls in turn, the first of the list first
 unfoldable pub answers : Caller → List Call → List Answer

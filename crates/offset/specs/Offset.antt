@@ -103,7 +103,7 @@ pub data Higher (d : ℤ) : Call → Call → Type 0 where
   rows-too : (out too : List Bucket) → length too ≡ length out → Higher d (rows out) (rows too)
   saves-too : (out too : List ℕ) → length too ≡ length out → Higher d (saves out) (saves too)
   loads-too : (g : Opening) (i : ℕ) (l m : List ℤ) → length m ≡ length l → Higher d (loads g i l) (loads g i m)
-  replays-too : (size : Size) (gaps : ℕ) (r q : List ℕ) (l m : List ℤ) → RecordingMoved d r q → length m ≡ length l → Higher d (replays size gaps r l) (replays size gaps q m)
+  replays-too : (size : Size) (gaps edition : ℕ) (r q : List ℕ) (l m : List ℤ) → RecordingMoved d r q → length m ≡ length l → Higher d (replays size gaps edition r l) (replays size gaps edition q m)
 
 -- so are calls in turn
 pub data AllHigher (d : ℤ) : List Call → List Call → Type 0 where
@@ -135,7 +135,7 @@ higher d worsts = worsts
 higher d (rows out) = rows out
 higher d (saves out) = saves out
 higher d (loads g i l) = loads g i l
-higher d (replays size gaps r l) = replays size gaps (raised d r) l
+higher d (replays size gaps edition r l) = replays size gaps edition (raised d r) l
 
 -- the readings that calls are fed with, many at one call and those of a recording too
 unfoldable pub readingsIn : List Call → List ℤ
@@ -151,7 +151,7 @@ readingsIn (worsts ∷ xs) = readingsIn xs
 readingsIn (rows out ∷ xs) = readingsIn xs
 readingsIn (saves out ∷ xs) = readingsIn xs
 readingsIn (loads g i l ∷ xs) = readingsIn xs
-readingsIn (replays size gaps r l ∷ xs) = readingsOf r ++ readingsIn xs
+readingsIn (replays size gaps edition r l ∷ xs) = readingsOf r ++ readingsIn xs
 
 -- what the second caller has is what the first has, d higher: the same state, and every bucket with the same ticks, moved
 pub record Alike (d : ℤ) (c e : Caller) : Type 0 where
@@ -197,7 +197,7 @@ pub record Offset : Type 0 where
   pub late-feeds : (tick : ℕ) (v : ℤ) (xs : List Call) → readingsIn (lates tick v ∷ xs) ≡ v ∷ readingsIn xs
   pub next-many-feeds : (vs : List ℤ) (xs : List Call) → readingsIn (nextsMany vs ∷ xs) ≡ vs ++ readingsIn xs
   pub late-many-feeds : (ts : List ℕ) (vs : List ℤ) (xs : List Call) → readingsIn (latesMany ts vs ∷ xs) ≡ vs ++ readingsIn xs
-  pub replay-feeds : (size : Size) (gaps : ℕ) (r : List ℕ) (l : List ℤ) (xs : List Call) → readingsIn (replays size gaps r l ∷ xs) ≡ readingsOf r ++ readingsIn xs
+  pub replay-feeds : (size : Size) (gaps edition : ℕ) (r : List ℕ) (l : List ℤ) (xs : List Call) → readingsIn (replays size gaps edition r l ∷ xs) ≡ readingsOf r ++ readingsIn xs
   -- a search, whatever it asks: the call itself answers it of what the caller has, which stays; it feeds no reading, and no search is left out
   pub searched : (c : Caller) (first last : ℕ) (bar : ℤ) → answer c (searches first last bar) ≡ pointed (searchOutcome (c .state) (c .room) first last bar)
   pub search-leaves : (c : Caller) (first last : ℕ) (bar : ℤ) → left c (searches first last bar) ≡ c
@@ -213,12 +213,12 @@ pub record Offset : Type 0 where
   pub late-many-same : (d : ℤ) (c e : Caller) → Alike d c e → (ts : List ℕ) (vs : List ℤ) → AllFit d vs
       → reach (lateMany (e .state) (e .room) (timed ts (movedReadings d vs))) ≡ reach (lateMany (c .state) (c .room) (timed ts vs))
   -- a replay: the call itself answers it, with the state and two counts; accepted, its trace and room take the place of those at hand, refused, all stays; tally and files stay either way
-  pub replay-answers : (c : Caller) (size : Size) (gaps : ℕ) (r : List ℕ) (l m : List ℤ) (k : Course) → replayOutcome size gaps r l ≡ (accepted k, m)
-      → (answer c (replays size gaps r l) ≡ recounted (accepted (k .state, length (k .landed), k .refused))) × (left c (replays size gaps r l) ≡ record { state = k .state; room = m; tally = c .tally; files = c .files })
-  pub replay-refused : (c : Caller) (size : Size) (gaps : ℕ) (r : List ℕ) (l m : List ℤ) (x : Refusal) → replayOutcome size gaps r l ≡ (refused x, m)
-      → (answer c (replays size gaps r l) ≡ recounted (refused x)) × (left c (replays size gaps r l) ≡ c)
+  pub replay-answers : (c : Caller) (size : Size) (gaps edition : ℕ) (r : List ℕ) (l m : List ℤ) (k : Course) → replayOutcome size gaps edition r l ≡ (accepted k, m)
+      → (answer c (replays size gaps edition r l) ≡ recounted (accepted (k .state, length (k .landed), k .refused))) × (left c (replays size gaps edition r l) ≡ record { state = k .state; room = m; tally = c .tally; files = c .files })
+  pub replay-refused : (c : Caller) (size : Size) (gaps edition : ℕ) (r : List ℕ) (l m : List ℤ) (x : Refusal) → replayOutcome size gaps edition r l ≡ (refused x, m)
+      → (answer c (replays size gaps edition r l) ≡ recounted (refused x)) × (left c (replays size gaps edition r l) ≡ c)
   -- a replay, whatever the caller has: the same records are accepted, at the same ticks
-  pub replay-same : (d : ℤ) (size : Size) (gaps : ℕ) (r q : List ℕ) (l m : List ℤ) → RecordingMoved d r q → length m ≡ length l
-      → landedIn (replayOutcome size gaps q m .0) ≡ map (movedLanded d) (landedIn (replayOutcome size gaps r l .0))
+  pub replay-same : (d : ℤ) (size : Size) (gaps edition : ℕ) (r q : List ℕ) (l m : List ℤ) → RecordingMoved d r q → length m ≡ length l
+      → landedIn (replayOutcome size gaps edition q m .0) ≡ map (movedLanded d) (landedIn (replayOutcome size gaps edition r l .0))
   -- and a recording of bytes is one of bytes with its readings d more
   pub raised-bytes : (d : ℤ) (r : List ℕ) → AllBytes r → AllBytes (raised d r)

@@ -14,24 +14,26 @@ use rule::State;
 use settings::bounded;
 
 // A trace in order.
-pub fn in_order(size: Size) -> Opening
-    ensures { λ r. ⌜ r ≡ record { kind = InOrder; size = size; gaps = 0 } ⌝ }
+pub fn in_order(size: Size, edition: usize) -> Opening
+    ensures { λ r. ⌜ r ≡ record { kind = InOrder; size = size; gaps = 0; edition = edition } ⌝ }
 {
     Opening {
         kind: Kind::InOrder,
         size,
         gaps: 0,
+        edition,
     }
 }
 
 // A late trace of at most K runs.
-pub fn late(size: Size, gaps: usize) -> Opening
-    ensures { λ r. ⌜ r ≡ record { kind = Late; size = size; gaps = gaps } ⌝ }
+pub fn late(size: Size, gaps: usize, edition: usize) -> Opening
+    ensures { λ r. ⌜ r ≡ record { kind = Late; size = size; gaps = gaps; edition = edition } ⌝ }
 {
     Opening {
         kind: Kind::Late,
         size,
         gaps,
+        edition,
     }
 }
 
@@ -76,6 +78,7 @@ pub fn kept(named: Opening) -> Settings
         kind,
         base: base_of(size),
         gaps: gaps_kept(kind, named.gaps),
+        edition: named.edition,
     }
 }
 

@@ -1,14 +1,14 @@
 -- The searches worked by hand are what the definitions say.
 use mathlib.Core.Path.{refl}
 use Rattle.rule.specs.Calls.{checked}
-use Rattle.rule.specs.Room.{allOf, allZero, bounded, clauses, flat, gapsGood, ranged, restZero, roomy, runsAllowed, slot, slotRanged, slots, sound, within}
+use Rattle.rule.specs.Room.{allOf, allZero, bounded, clauses, editionGood, flat, gapsGood, ranged, restZero, roomy, runsAllowed, slot, slotRanged, slots, sound, within}
 use Rattle.rule.specs.Rules.{broken, equal, faultAt, firstFalse, firstFault, follows, isWhole, ruled, rules}
 use Rattle.rule.specs.Table.{limitOver, readings, runs, runsAfter}
 use Rattle.over.specs.Search.{firstOver, over, searchOutcome, sought, soughtOf, touches}
 use Rattle.over.specs.ByHand.{ByHand}
 
 pub by-hand : ByHand
-unfolding checked allOf allZero bounded clauses flat gapsGood ranged restZero roomy runsAllowed slot slotRanged slots sound within broken equal faultAt firstFalse firstFault follows isWhole ruled rules limitOver readings runs runsAfter firstOver over searchOutcome sought soughtOf touches
+unfolding checked allOf allZero bounded clauses editionGood flat gapsGood ranged restZero roomy runsAllowed slot slotRanged slots sound within broken equal faultAt firstFalse firstFault follows isWhole ruled rules limitOver readings runs runsAfter firstOver over searchOutcome sought soughtOf touches
 by-hand =
     record {
       at-the-bar = refl;

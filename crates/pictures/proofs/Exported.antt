@@ -12,7 +12,7 @@ use lib.ListN.{drop, length, length-append, length-drop, take}
 use Rattle.rule.specs.declared.Refusal.{Refusal}
 use Rattle.rule.specs.declared.State.{State}
 use Rattle.rule.specs.Answers.{number, place}
-use Rattle.rule.specs.Room.{allOf, bounded, clauses, sound, tableOf}
+use Rattle.rule.specs.Room.{allOf, bounded, clauses, editionGood, sound, tableOf}
 use Rattle.rule.specs.Table.{Table, holders, runs}
 use Rattle.rule.proofs.Whole.{by-test}
 use Rattle.rooms.proofs.Sounding.{sound-facts}
@@ -95,7 +95,7 @@ module _ {named : Named} {rs : List Reading} {f : Fields} {l : List ℤ} (called
   }
 
 pub exported-pictures : ExportedPictures
-unfolding sound clauses allOf bounded kindOf picturing
+unfolding sound clauses editionGood allOf bounded kindOf picturing
 exported-pictures = record {
   pictures = λ f l caption out. let s = stateFrom f in let o = pictureOutcome s l caption out in draws (o .0) (pictureRows s l caption (length out)) out (o .1) (demand1 .pictures s l caption out);
   writes = λ f l caption out.

@@ -103,4 +103,4 @@ loadReply named file room = replied none (answered (loaded (openingOf named) fil
 
 -- the kind is not looked at: a replayed trace is late
 abbrev pub replayReply : Named → List ℕ → List ℤ → Recount × List ℤ
-replayReply named recording room = let o = replay.answered (replayOutcome (openingOf named .size) (named .gaps) recording room) in (recounting (o .0), o .1)
+replayReply named recording room = let o = replay.answered (replayOutcome (openingOf named .size) (named .gaps) (named .edition) recording room) in (recounting (o .0), o .1)

@@ -3,7 +3,7 @@ use Prim.Native.Nat.{ℕ, _+_, _*_, _≤_, _<_}
 use mathlib.Core.Path.{_≡_, refl, sym, ap, _∙_, subst}
 use mathlib.Core.Bool.{Bool, true, false, cond, true≢false, false≢true}
 use mathlib.Core.List.{List, [], _∷_, List·Memᴰ, List·Memᴰ·head, List·Memᴰ·tail, List·Memᴰ·cases-cons, List·Memᴰ·not-nil}
-use mathlib.Core.Logic.{⊎-elim}
+use mathlib.Core.Logic.{_⊎_, ⊎-elim}
 use mathlib.Core.Option.{Option, some}
 use native.Mathlib.Omega.{arith}
 use borrow.Author.Tests.{eqb-true, lt-leb}
@@ -38,16 +38,19 @@ use Rattle.storage.proofs.Filing.{load-accepts, load-leaves, save-writes}
 use Rattle.storage.proofs.RoundTrips.{loaded-saved, saved-accepted, saved-loaded, saved-loaded-slots}
 use Rattle.rooms.proofs.Arriving.{late-free}
 use Rattle.rooms.proofs.Leaving.{late-either, late-leaves, next-either, next-leaves, open-either, open-leaves}
-use Rattle.demands.specs.History.{Accepted, Reading, Takes, arrived, runsOf, tableAfter}
+use Rattle.demands.specs.Editions.{Follows}
+use Rattle.demands.specs.History.{Accepted, FewestTicks, Held, LowestStart, Reading, Takes, arrived, runsOf, tableAfter}
 use Rattle.demands.specs.Served.{Served}
+use Rattle.demands.proofs.Editions.{editions}
 use Rattle.demands.proofs.Instance.{demand3 as of-tables, instance-length}
 use Rattle.series.specs.Promise.{AllSigned, AllTimed}
 use Rattle.series.specs.Series.{Fed, lateCall, lateMany, nextCall, nextMany}
 use Rattle.series.proofs.Taking.{fed-ind}
+use Rattle.promises.proofs.Reloading.{either-loads}
 use Rattle.promises.specs.Reached.{Reached, SameSettings, atTheirTicks, inOrderFrom, late-refused, lates, load-refused, loads, next-refused, nexts, open-refused, opens, replay-refused}
 use Rattle.answered.specs.Answered.{baseNamed, namedBy, slotsNeeded}
 use Rattle.promises.specs.Demands.{Demand2, Demand3, Upheld}
-use Rattle.answered.proofs.Answering.{base-is, limit-named, needed-is}
+use Rattle.answered.proofs.Answering.{base-is, either-edition, limit-named, needed-is}
 use Rattle.answered.proofs.Outcomes.{bytes-written, next-in-order}
 use Rattle.rooms.proofs.Outcomes.{accepted-is, not-accepted, traced-refused}
 use Rattle.logger.proofs.Along.{replay-refused as replay-leaves}
@@ -86,7 +89,7 @@ pub kept-same : (h g : Opening) → SameSettings h g → kept h ≡ kept g
 kept-same h g same =
     let gaps : gapsKept (h .kind) (h .gaps) ≡ gapsKept (g .kind) (g .gaps) = ap (λ (k : Kind). gapsKept k (h .gaps)) (same .kind) ∙ kept-gaps (g .kind) (h .gaps) (g .gaps) (same .gaps) in
     let base : baseOf (h .size) ≡ baseOf (g .size) = omega (arith, same .base, base-is (h .size), base-is (g .size)) in
-    λ i. record { kind = same .kind i; base = base i; gaps = gaps i }
+    λ i. record { kind = same .kind i; base = base i; gaps = gaps i; edition = same .edition i }
 
 -- K as kept, in 01's words
 pub gaps-are : (k : Kind) (n : ℕ) → gapsKept k n ≡ cond (late k) n 0
@@ -146,7 +149,7 @@ known {g} (next-refused {rs = rs} {s = s} {l = l} {m = m} {r = q} v r e) = subst
 known {g} (late-refused {rs = rs} {s = s} {l = l} {m = m} {r = q} tick v r e) = subst (Known g rs s) (sym (traced-refused (s .settings) l (lateVerdict s l tick v) q m e)) (known r)
 known {g} (open-refused {rs = rs} {s = s} {l = l} {m = m} {r = q} h r e) = subst (Known g rs s) (sym (traced-refused (kept h) l (admitted h l (accepted [])) q m e)) (known r)
 known {g} (load-refused {rs = rs} {s = s} {l = l} {m = m} {r = q} h file r e) = subst (Known g rs s) (sym (traced-refused (kept h) l (loadVerdict h file l) q m e)) (known r)
-known {g} (replay-refused {rs = rs} {s = s} {l = l} {m = m} size gaps recording r e) = subst (Known g rs s) (sym (replay-leaves size gaps recording l e)) (known r)
+known {g} (replay-refused {rs = rs} {s = s} {l = l} {m = m} size gaps edition recording r e) = subst (Known g rs s) (sym (replay-leaves size gaps edition recording l e)) (known r)
 known {g} (loads {rs = rs} {s = s} {t = t} {l = l} {m = m} {written = written} {n = n} out room h same r saves e) =
     let k = known r in
     let file : take (recordWidth * n) written ≡ saved (tableOf s l) = bytes-written s l out n written saves in
@@ -198,6 +201,7 @@ keeps {g} {rs} {s} {l} r =
       kind-named = ap (λ (x : Settings). x .kind) (k .named);
       base-named = same;
       gaps-named = ap (λ (x : Settings). x .gaps) (k .named) ∙ gaps-are (g .kind) (g .gaps);
+      edition-named = ap (λ (x : Settings). x .edition) (k .named);
       fit = k .fit;
       buckets = k .buckets ∙ ap (λ (x : Settings). tableAfter x rs) (k .named);
       picture = λ c E few near.
@@ -251,6 +255,7 @@ same-kept h g e =
       kind = kind;
       base = omega (arith, ap (λ (x : Settings). x .base) e, base-is (h .size), base-is (g .size));
       gaps = λ l. sym (late-gaps (h .kind) (h .gaps) (ap late kind ∙ l)) ∙ ap (λ (x : Settings). x .gaps) e ∙ late-gaps (g .kind) (g .gaps) l;
+      edition = ap (λ (x : Settings). x .edition) e;
     }
 
 load-names : (g : Opening) (file : List ℕ) (l : List ℤ) (t : State) → loaded g file l .0 ≡ accepted t → t .settings ≡ kept g
@@ -260,10 +265,24 @@ load-names g file l t e =
     let q : t ≡ stateOf (kept g) (recordsOf file) = cc in
     ap (λ (x : State). x .settings) q
 
+-- the rule in words, of whatever is reached
+by-rule : {g : Opening} {rs : List Reading} {s : State} {l : List ℤ} (M : Table → Table → Type 0) → Follows (g .edition) M → Reached g rs s l → (m : ℕ) × Held M (g .kind) (baseNamed (g .size)) rs (tableOf s l) m
+by-rule {g} {rs} {s} {l} M f r =
+    let k = known r in
+    let up = keeps r in
+    let positive : 1 ≤ s .settings .base = bounds mostBase (s .settings .base) (sound-facts s l (k .fit) .base-good) .0 in
+    let h = f .allowed (s .settings) rs (up .edition-named) positive (k .taken) in
+    (h .0, subst (λ (t : Table). Held M (g .kind) (baseNamed (g .size)) rs t (h .0)) (sym (k .buckets)) (subst (λ (b : ℕ). Held M (g .kind) b rs (tableAfter (s .settings) rs) (h .0)) (up .base-named) (subst (λ (x : Kind). Held M x (s .settings .base) rs (tableAfter (s .settings) rs) (h .0)) (up .kind-named) (h .1))))
+
 pub demand2 : Demand2
 unfolding baseNamed
 demand2 = record {
   buckets = λ r. keeps r .buckets;
+  first-edition = λ {g} r e. by-rule LowestStart (subst (λ (n : ℕ). Follows n LowestStart) (sym e) (editions .first)) r;
+  second-edition = λ {g} r e. by-rule FewestTicks (subst (λ (n : ℕ). Follows n FewestTicks) (sym e) (editions .second)) r;
+  first-alone = editions .first .alone;
+  second-alone = editions .second .alone;
+  either-edition = λ {g} {rs} {s} {l} r. subst (λ (n : ℕ). (n ≡ 1) ⊎ (n ≡ 2)) (keeps r .edition-named) (either-edition (s .settings .edition) (sound-facts s l (keeps r .fit) .edition-good));
   extremes = λ r. keeps r .extremes;
   gapless = λ {g} {rs} {s} {l} r b m tick h. counted-once (arrived tick rs) (omega (arith, keeps r .covers tick, held-member tick m h));
   spreads = λ {g} {rs} {s} {l} r b m. spread-small b (fitting-member (fitted-slots l 0 (s .used) (sound-facts s l (keeps r .fit) .ranges)) m);
@@ -286,7 +305,9 @@ demand2 = record {
     ap (λ (x : Settings). x .kind) n,
     ap (λ (x : Settings). x .base) n ∙ base-is (g .size),
     ap (λ (x : Settings). x .gaps) n ∙ gaps-are (g .kind) (g .gaps),
+    ap (λ (x : Settings). x .edition) n,
   );
+  either-loads = λ g e here there file l. either-loads g e l here there file;
   loaded-saved = loaded-saved;
 }
 

@@ -3,6 +3,7 @@ use Prim.Native.Nat.{ℕ, _≤_, _+_, _*_, _/_, min}
 use mathlib.Core.Path.{_≡_}
 use mathlib.Core.Bool.{true, false, cond}
 use mathlib.Core.List.{List, [], _∷_, _++_, List·Memᴰ}
+use mathlib.Core.Logic.{_⊎_}
 use lib.IntN.{ℤ}
 use lib.ListN.{drop, length, take}
 use Rattle.rule.specs.declared.Bucket.{Bucket}
@@ -17,12 +18,12 @@ use Rattle.rule.specs.declared.State.{State}
 use Rattle.rule.specs.declared.Written.{Written}
 use Rattle.rule.specs.Bucket.{distance, error, level, spread}
 use Rattle.rule.specs.Bytes.{saved}
-use Rattle.rule.specs.Calls.{accepted, kept, late, loaded, lookupOutcome, opened, saveOutcome}
+use Rattle.rule.specs.Calls.{Verdict, accepted, kept, late, loaded, lookupOutcome, opened, refused, saveOutcome}
 use Rattle.rule.specs.Room.{sound, tableOf}
-use Rattle.rule.specs.Table.{holders, holds, limit, nextTick, worst}
+use Rattle.rule.specs.Table.{Table, holders, holds, limit, nextTick, worst}
 use Rattle.storage.specs.Bytes.{AllBytes}
 use Rattle.demands.specs.Curve.{Curve, steps}
-use Rattle.demands.specs.History.{Reading, arrived, runsOf, tableAfter}
+use Rattle.demands.specs.History.{FewestTicks, Held, LowestStart, Reading, arrived, runsOf, tableAfter}
 use Rattle.demands.specs.Served.{Extremes, Near}
 use Rattle.answered.specs.Answered.{baseNamed, mostSteps, namedBy, slotsNeeded}
 use Rattle.logger.specs.Replay.{Course, replayOutcome}
@@ -38,11 +39,12 @@ pub record Seen (E : ℕ) (s : State) (l : List ℤ) (r : Reading) : Type 0 wher
 
 -- of a trace opened with what g names
 pub record Upheld (g : Opening) (rs : List Reading) (s : State) (l : List ℤ) : Type 0 where
-  -- the kind, the base limit and K named at the opening are those of the state, K in order but for being kept as 0
+  -- the kind, the base limit, K and the edition named at the opening are those of the state, K in order but for being kept as 0
   pub named : s .settings ≡ kept g
   pub kind-named : s .settings .kind ≡ g .kind
   pub base-named : s .settings .base ≡ baseNamed (g .size)
   pub gaps-named : s .settings .gaps ≡ cond (late (g .kind)) (g .gaps) 0
+  pub edition-named : s .settings .edition ≡ g .edition
   -- refusal 4 is never met
   pub fit : sound s l ≡ true
   -- demand 2: the buckets are those of the rule applied to the accepted readings
@@ -63,10 +65,26 @@ pub record Upheld (g : Opening) (rs : List Reading) (s : State) (l : List ℤ) :
   -- a bucket's least and largest are the least and largest reading among exactly its ticks
   pub extremes : (b : Bucket) → List·Memᴰ b (tableOf s l) → Extremes rs b
 
+-- an opening, and what was answered, with another edition and else the same
+abbrev pub inEdition : ℕ → Opening → Opening
+inEdition e g = record { kind = g .kind; size = g .size; gaps = g .gaps; edition = e }
+
+unfoldable pub answeredIn : ℕ → Verdict State → Verdict State
+answeredIn e (refused r) = refused r
+answeredIn e (accepted s) =
+    accepted (record { settings = record { kind = s .settings .kind; base = s .settings .base; gaps = s .settings .gaps; edition = e }; used = s .used; runs = s .runs; readings = s .readings })
+
 -- Demand 2: the buckets are those of the min-merge rule (late: its fragment form), and save and load round-trip both ways.
 pub record Demand2 : Type 0 where
   -- after any calls they are the rule's, applied to the accepted readings, with the settings named at the opening
   pub buckets : {g : Opening} {rs : List Reading} {s : State} {l : List ℤ} → Reached g rs s l → tableOf s l ≡ tableAfter (kept g) rs
+  -- and so they are in words, by edition: while there are more than the limit, two of the cheapest neighbours are merged, in edition 1 those with the lowest start, in edition 2 those with the fewest ticks and of these the lowest start
+  pub first-edition : {g : Opening} {rs : List Reading} {s : State} {l : List ℤ} → Reached g rs s l → g .edition ≡ 1 → (m : ℕ) × Held LowestStart (g .kind) (baseNamed (g .size)) rs (tableOf s l) m
+  pub second-edition : {g : Opening} {rs : List Reading} {s : State} {l : List ℤ} → Reached g rs s l → g .edition ≡ 2 → (m : ℕ) × Held FewestTicks (g .kind) (baseNamed (g .size)) rs (tableOf s l) m
+  -- no other table is such, and no trace is of another edition
+  pub first-alone : {k : Kind} {base m n : ℕ} {rs : List Reading} {t u : Table} → Held LowestStart k base rs t m → Held LowestStart k base rs u n → t ≡ u
+  pub second-alone : {k : Kind} {base m n : ℕ} {rs : List Reading} {t u : Table} → Held FewestTicks k base rs t m → Held FewestTicks k base rs u n → t ≡ u
+  pub either-edition : {g : Opening} {rs : List Reading} {s : State} {l : List ℤ} → Reached g rs s l → (g .edition ≡ 1) ⊎ (g .edition ≡ 2)
   -- each has the least and the largest reading among exactly its ticks
   pub extremes : {g : Opening} {rs : List Reading} {s : State} {l : List ℤ} → Reached g rs s l → (b : Bucket) → List·Memᴰ b (tableOf s l) → Extremes rs b
   -- none spans a tick that has not arrived
@@ -84,34 +102,36 @@ pub record Demand2 : Type 0 where
       → let o = loaded h (saved (tableOf s l)) room in (o .0 ≡ accepted s) × (take (4 * slotsNeeded (namedBy g)) (o .1) ≡ take (4 * slotsNeeded (namedBy g)) l)
   -- the same settings are those of which the same is kept, named by B or by C
   pub same-settings : (h g : Opening) → (SameSettings h g → kept h ≡ kept g) × (kept h ≡ kept g → SameSettings h g)
-  -- of bytes from anywhere, load keeps the kind, the base limit and K that it was given, K in order but for being kept as 0
+  -- of bytes from anywhere, load keeps the kind, the base limit, K and the edition that it was given, K in order but for being kept as 0
   pub loaded-named : (g : Opening) (file : List ℕ) (l : List ℤ) (t : State) → loaded g file l .0 ≡ accepted t
-      → (t .settings .kind ≡ g .kind) × (t .settings .base ≡ baseNamed (g .size)) × (t .settings .gaps ≡ cond (late (g .kind)) (g .gaps) 0)
+      → (t .settings .kind ≡ g .kind) × (t .settings .base ≡ baseNamed (g .size)) × (t .settings .gaps ≡ cond (late (g .kind)) (g .gaps) 0) × (t .settings .edition ≡ g .edition)
+  -- a file does not say its edition: by the other one, load gives the same refusal, or the same buckets and the same state but for the edition, and leaves the same room
+  pub either-loads : (g : Opening) (e : ℕ) → (g .edition ≡ 1) ⊎ (g .edition ≡ 2) → (e ≡ 1) ⊎ (e ≡ 2) → (file : List ℕ) (l : List ℤ) → let o = loaded g file l in loaded (inEdition e g) file l ≡ (answeredIn e (o .0), o .1)
   -- and bytes from anywhere that load accepts are the bytes that save writes of what it left
   pub loaded-saved : (g : Opening) (file : List ℕ) (l : List ℤ) (t : State) (out : List ℕ) → AllBytes file → loaded g file l .0 ≡ accepted t → length file ≤ length out
       → saveOutcome t (loaded g file l .1) out ≡ (Written.Buckets (length file / 16), file ++ drop (length file) out)
 
 -- Demand 3: nobody could have served better with half as many steps.
 pub record Demand3 : Type 0 where
-  -- it is said of every accepted opening, by B or by C, odd or even
+  -- it is said of every accepted opening, by B or by C, odd or even, in either edition
   pub begins : (g : Opening) (l : List ℤ) {s : State} {m : List ℤ} → opened g l ≡ (accepted s, m) → Reached g [] s m
   -- and of every accepted replay: what it leaves is reached by the opening of a late trace and its accepted records, each a late reading at its tick
-  pub replays : (size : Size) (gaps : ℕ) (recording : List ℕ) (l : List ℤ) {c : Course} {m : List ℤ} → replayOutcome size gaps recording l ≡ (accepted c, m)
-      → Reached (record { kind = Late; size = size; gaps = gaps }) (readingsOf (c .landed)) (c .state) m
+  pub replays : (size : Size) (gaps edition : ℕ) (recording : List ℕ) (l : List ℤ) {c : Course} {m : List ℤ} → replayOutcome size gaps edition recording l ≡ (accepted c, m)
+      → Reached (record { kind = Late; size = size; gaps = gaps; edition = edition }) (readingsOf (c .landed)) (c .state) m
   -- and after many readings at one call, refused or not: what it leaves is reached, with the accepted ones as readings, in order at the ticks that come next, late each at its own
   pub next-many : {g : Opening} {rs : List Reading} {s : State} {l : List ℤ} → Reached g rs s l → (vs : List ℤ) → AllSigned vs → let f = nextMany s l vs in
       Reached g (inOrderFrom (nextTick (tableOf s l)) (take (f .accepted) vs) rs) (f .state) (f .room)
   pub late-many : {g : Opening} {rs : List Reading} {s : State} {l : List ℤ} → Reached g rs s l → (ws : List (ℕ × ℤ)) → AllTimed ws → let f = lateMany s l ws in
       Reached g (atTheirTicks (take (f .accepted) ws) rs) (f .state) (f .room)
   -- of a trace opened with C, for every curve of at most (C + 1) / 2 flat steps, rounded down: where all readings are within E of it, lookup shows each within E, and the worst error is at most E
-  pub picture-of-base : {k : Kind} {base gaps : ℕ} {rs : List Reading} {s : State} {l : List ℤ} → Reached (record { kind = k; size = Base base; gaps = gaps }) rs s l
+  pub picture-of-base : {k : Kind} {base gaps edition : ℕ} {rs : List Reading} {s : State} {l : List ℤ} → Reached (record { kind = k; size = Base base; gaps = gaps; edition = edition }) rs s l
       → (c : Curve) (E : ℕ) → steps c ≤ (base + 1) / 2 → Near E c rs → ((r : Reading) → List·Memᴰ r rs → Seen E s l r) × (worst (tableOf s l) ≤ E)
   -- of a trace opened with B, document 01's own sentence: for every curve of at most B flat steps
-  pub picture-of-steps : {k : Kind} {b gaps : ℕ} {rs : List Reading} {s : State} {l : List ℤ} → Reached (record { kind = k; size = Steps b; gaps = gaps }) rs s l
+  pub picture-of-steps : {k : Kind} {b gaps edition : ℕ} {rs : List Reading} {s : State} {l : List ℤ} → Reached (record { kind = k; size = Steps b; gaps = gaps; edition = edition }) rs s l
       → (c : Curve) (E : ℕ) → steps c ≤ b → Near E c rs → ((r : Reading) → List·Memᴰ r rs → Seen E s l r) × (worst (tableOf s l) ≤ E)
   -- ours has at most C steps, late one more for each unbroken run
-  pub size-of-base : {k : Kind} {base gaps : ℕ} {rs : List Reading} {s : State} {l : List ℤ} → Reached (record { kind = k; size = Base base; gaps = gaps }) rs s l → s .used ≤ base + cond (late k) (runsOf rs) 0
+  pub size-of-base : {k : Kind} {base gaps edition : ℕ} {rs : List Reading} {s : State} {l : List ℤ} → Reached (record { kind = k; size = Base base; gaps = gaps; edition = edition }) rs s l → s .used ≤ base + cond (late k) (runsOf rs) 0
   -- opened with B, at most 2B, late one more for each unbroken run
-  pub size-of-steps : {k : Kind} {b gaps : ℕ} {rs : List Reading} {s : State} {l : List ℤ} → Reached (record { kind = k; size = Steps b; gaps = gaps }) rs s l → s .used ≤ 2 * b + cond (late k) (runsOf rs) 0
+  pub size-of-steps : {k : Kind} {b gaps edition : ℕ} {rs : List Reading} {s : State} {l : List ℤ} → Reached (record { kind = k; size = Steps b; gaps = gaps; edition = edition }) rs s l → s .used ≤ 2 * b + cond (late k) (runsOf rs) 0
   -- and covers exactly the ticks of the accepted readings, each once
   pub covers : {g : Opening} {rs : List Reading} {s : State} {l : List ℤ} → Reached g rs s l → (tick : ℕ) → holders tick (tableOf s l) ≡ cond (arrived tick rs) 1 0

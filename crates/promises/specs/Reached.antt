@@ -17,11 +17,12 @@ use Rattle.demands.specs.History.{Reading}
 use Rattle.logger.specs.Replay.{Landed, replayOutcome}
 use Rattle.answered.specs.Answered.{baseNamed}
 
--- the same settings: the same base limit, named by B or by C, and in order any K
+-- the same settings: the same edition, the same base limit, named by B or by C, and in order any K
 pub record SameSettings (h g : Opening) : Type 0 where
   pub kind : h .kind ≡ g .kind
   pub base : baseNamed (h .size) ≡ baseNamed (g .size)
   pub gaps : late (g .kind) ≡ true → h .gaps ≡ g .gaps
+  pub edition : h .edition ≡ g .edition
 
 -- opened with what g names, the state is s and the room holds l after the accepted readings rs, newest first
 pub data Reached (g : Opening) : List Reading → State → List ℤ → Type 0 where
@@ -37,7 +38,7 @@ pub data Reached (g : Opening) : List Reading → State → List ℤ → Type 0 
   late-refused : {rs : List Reading} {s : State} {l m : List ℤ} {r : Refusal} (tick : ℕ) (v : ℤ) → Reached g rs s l → lateOutcome s l tick v ≡ (refused r, m) → Reached g rs s m
   open-refused : {rs : List Reading} {s : State} {l m : List ℤ} {r : Refusal} (h : Opening) → Reached g rs s l → opened h l ≡ (refused r, m) → Reached g rs s m
   load-refused : {rs : List Reading} {s : State} {l m : List ℤ} {r : Refusal} (h : Opening) (file : List ℕ) → Reached g rs s l → loaded h file l ≡ (refused r, m) → Reached g rs s m
-  replay-refused : {rs : List Reading} {s : State} {l m : List ℤ} {r : Refusal} (size : Size) (gaps : ℕ) (recording : List ℕ) → Reached g rs s l → replayOutcome size gaps recording l ≡ (refused r, m) → Reached g rs s m
+  replay-refused : {rs : List Reading} {s : State} {l m : List ℤ} {r : Refusal} (size : Size) (gaps edition : ℕ) (recording : List ℕ) → Reached g rs s l → replayOutcome size gaps edition recording l ≡ (refused r, m) → Reached g rs s m
   -- saved by the call into any output, and the bytes that it wrote loaded into any room with the same settings
   loads : {rs : List Reading} {s t : State} {l m : List ℤ} {written : List ℕ} {n : ℕ} (out : List ℕ) (room : List ℤ) (h : Opening) → SameSettings h g → Reached g rs s l
       → saveOutcome s l out ≡ (Written.Buckets n, written) → loaded h (take (16 * n) written) room ≡ (accepted t, m) → Reached g rs t m

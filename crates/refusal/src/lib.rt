@@ -23,6 +23,7 @@ pub fn number(refusal: Refusal) -> u32
         Refusal::Short => 13,
         Refusal::Line => 14,
         Refusal::Caption => 15,
+        Refusal::Edition => 16,
     }
 }
 

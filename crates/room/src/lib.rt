@@ -30,7 +30,7 @@ pub fn accept(s: State, room: &mut [i64], at: usize, runs: usize, tick: u32, val
         insert(&mut *room, used, at, b);
         return used + 1;
     }
-    let place = cheapest_with(&*room, used, at, b);
+    let place = cheapest_with(settings.edition, &*room, used, at, b);
     insert_merged(&mut *room, used, at, b, place);
     settle(settings, runs, &mut *room, used)
 }

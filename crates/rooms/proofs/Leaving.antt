@@ -43,7 +43,7 @@ none-allowed Late gaps = lib.Dec.leb·zero gaps
 
 empty-leaves : (s : Settings) (l : List ℤ) → Granted s l → Leaves s l (accepted [])
 unfolding traced LeftBy runs Ruled Fitted
-empty-leaves s l g = facts-sound _ _ (laid-facts s [] l (g .base) (g .gaps) (none-allowed (s .kind) (s .gaps)) (g .long) (omega arith) tt tt)
+empty-leaves s l g = facts-sound _ _ (laid-facts s [] l (g .edition) (g .base) (g .gaps) (none-allowed (s .kind) (s .gaps)) (g .long) (omega arith) tt tt)
 
 pub open-either : (o : Opening) (l : List ℤ) (P : Verdict Table → Type 0) → ((r : Refusal) → P (refused r)) → (Granted (kept o) l → P (accepted [])) → P (admitted o l (accepted []))
 open-either o l = past-admission o l (accepted [])

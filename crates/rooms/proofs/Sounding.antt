@@ -16,7 +16,7 @@ use Rattle.rule.specs.declared.State.{State}
 use Rattle.rule.specs.Bucket.{end}
 use Rattle.rule.specs.Calls.{stateOf}
 use Rattle.rule.specs.Numbers.{mostBase, slotWidth, ticks, word}
-use Rattle.rule.specs.Room.{allOf, allZero, baseGood, clauses, flat, gapsGood, laid, ranged, restZero, roomy, runsAllowed, slots, sound, tableOf, zeros}
+use Rattle.rule.specs.Room.{allOf, allZero, baseGood, clauses, editionGood, flat, gapsGood, laid, ranged, restZero, roomy, runsAllowed, slots, sound, tableOf, zeros}
 use Rattle.rule.specs.Rules.{equal, ruled}
 use Rattle.rule.specs.Table.{Table, Ordered, cheapest, limit, limitOver, merge, mergeOf, needed, readings, runs, settle, Choice, nothing, pair}
 use Rattle.rule.proofs.Merging.{Enough, merge-readings, settle-keeps, settle-length, settle-runs}
@@ -28,6 +28,7 @@ use Rattle.rooms.proofs.Fitting.{filled-laid}
 use Rattle.rooms.proofs.Laying.{laid-more, length-flat, length-laid, slots-laid}
 
 pub record Facts (s : State) (l : List ℤ) : Type 0 where
+  pub edition-good : editionGood (s .settings .edition) ≡ true
   pub base-good : baseGood (s .settings .base) ≡ true
   pub gaps-good : gapsGood (s .settings .kind) (s .settings .gaps) ≡ true
   pub allowed : runsAllowed (s .settings .kind) (s .settings .gaps) (s .runs) ≡ true
@@ -50,22 +51,24 @@ pub sound-facts : (s : State) (l : List ℤ) → sound s l ≡ true → Facts s 
 unfolding sound clauses roomy ruled
 sound-facts s l e =
     record {
-      base-good = all-at (clauses s l) 0 e;
-      gaps-good = all-at (clauses s l) 1 e;
-      allowed = all-at (clauses s l) 2 e;
-      long = leb-true (slotWidth * needed (s .settings)) (length l) (all-at (clauses s l) 3 e);
-      few = leb-true (s .used) (limit (s .settings) (s .runs)) (all-at (clauses s l) 4 e);
-      ranges = all-at (clauses s l) 5 e;
-      rules = ruled-facts (s .settings .kind) 0 0 (tableOf s l) (all-at (clauses s l) 6 e);
-      true-runs = eqb-true (s .runs) (runs (tableOf s l)) (all-at (clauses s l) 7 e);
-      true-readings = eqb-true (s .readings) (readings (tableOf s l)) (all-at (clauses s l) 8 e);
-      rest = all-at (clauses s l) 9 e;
+      edition-good = all-at (clauses s l) 0 e;
+      base-good = all-at (clauses s l) 1 e;
+      gaps-good = all-at (clauses s l) 2 e;
+      allowed = all-at (clauses s l) 3 e;
+      long = leb-true (slotWidth * needed (s .settings)) (length l) (all-at (clauses s l) 4 e);
+      few = leb-true (s .used) (limit (s .settings) (s .runs)) (all-at (clauses s l) 5 e);
+      ranges = all-at (clauses s l) 6 e;
+      rules = ruled-facts (s .settings .kind) 0 0 (tableOf s l) (all-at (clauses s l) 7 e);
+      true-runs = eqb-true (s .runs) (runs (tableOf s l)) (all-at (clauses s l) 8 e);
+      true-readings = eqb-true (s .readings) (readings (tableOf s l)) (all-at (clauses s l) 9 e);
+      rest = all-at (clauses s l) 10 e;
     }
 
 pub facts-sound : (s : State) (l : List ℤ) → Facts s l → sound s l ≡ true
 unfolding sound clauses roomy ruled allOf
 facts-sound s l f =
     rw (
+      f .edition-good,
       f .base-good,
       f .gaps-good,
       f .allowed,
@@ -130,13 +133,14 @@ rest-laid s w l =
     rw (drop-at (flat w) (zeros k ++ drop (slotWidth * needed s) l) (slotWidth * length w) (length-flat w), take-at (zeros k) (drop (slotWidth * needed s) l) k (length-zeros k)) (all-zeros k)
 
 -- a table that meets what a sound state asks, laid
-pub laid-facts : (s : Settings) (w : Table) (l : List ℤ) → baseGood (s .base) ≡ true → gapsGood (s .kind) (s .gaps) ≡ true → runsAllowed (s .kind) (s .gaps) (runs w) ≡ true
+pub laid-facts : (s : Settings) (w : Table) (l : List ℤ) → editionGood (s .edition) ≡ true → baseGood (s .base) ≡ true → gapsGood (s .kind) (s .gaps) ≡ true → runsAllowed (s .kind) (s .gaps) (runs w) ≡ true
     → slotWidth * needed s ≤ length l → length w ≤ limit s (runs w) → Fitted w → Ruled (s .kind) 0 w → Facts (stateOf s w) (laid (needed s) w l)
-laid-facts s w l base gaps allowed long few fitted rules =
+laid-facts s w l edition base gaps allowed long few fitted rules =
     let n : ℕ = needed s in
     let within : length w ≤ n = omega (arith, limit-gaps (s .kind) (s .base) (s .gaps) (runs w) allowed) in
     let same : slots (laid n w l) 0 (length w) ≡ w = slots-laid n w l in
     record {
+      edition-good = edition;
       base-good = base;
       gaps-good = gaps;
       allowed = allowed;
@@ -154,13 +158,13 @@ laid-facts s w l base gaps allowed long few fitted rules =
 fitted-merges : (q : Choice) (t : Table) → Fitted t → readings t < word → Fitted (mergeOf q t)
 unfolding mergeOf
 fitted-merges nothing t f h = f
-fitted-merges (pair i s) t f h = fitted-merge i t f h
+fitted-merges (pair i s w) t f h = fitted-merge i t f h
 
 pub settle-fitted : (s : Settings) (t : Table) → Enough s t → Fitted t → readings t < word → Fitted (settle s t)
 unfolding merge
 settle-fitted s t e f h =
     settle-keeps s (λ u. Fitted u × (readings u < word))
-    (λ u g p. (fitted-merges (cheapest 0 u) u (p .0) (p .1), omega (arith, p .1, merge-readings u g)))
+    (λ u g p. (fitted-merges (cheapest (s .edition) 0 u) u (p .0) (p .1), omega (arith, p .1, merge-readings (s .edition) u g)))
     (length t) t (omega arith) e (f, h) .0
 
 one-run : (t : Table) → Ruled InOrder 0 t → runs t ≤ 1
@@ -187,7 +191,7 @@ module _ (s : State) (l : List ℤ) (f : Facts s l) (u : Table) (longer : length
   settled-facts =
       let settled : length (settle (s .settings) u) ≡ min (length u) (limit (s .settings) (runs u)) = settle-length (s .settings) (length u) u (omega arith) enough in
       let same-runs : runs (settle (s .settings) u) ≡ runs u = settle-runs (s .settings) u enough in
-      laid-facts (s .settings) (settle (s .settings) u) l (f .base-good) (f .gaps-good) (rw same-runs allowed) (f .long) (rw same-runs (omega arith))
+      laid-facts (s .settings) (settle (s .settings) u) l (f .edition-good) (f .base-good) (f .gaps-good) (rw same-runs allowed) (f .long) (rw same-runs (omega arith))
       (settle-fitted (s .settings) u enough fitted counted) (settle-ruled (s .settings) (s .settings .kind) 0 u enough rules)
 
   pub settled-sound : sound (stateOf (s .settings) (settle (s .settings) u)) (laid (needed (s .settings)) (settle (s .settings) u) l) ≡ true

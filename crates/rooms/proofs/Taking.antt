@@ -30,7 +30,7 @@ use Rattle.rooms.proofs.Sounding.{Facts, counted, enough, laid-needed, 
 module _ (s : State) (l : List ℤ) (at k tick : ℕ) (v : ℤ) (w : Table) where
   -- the room of a full table after the first merge
   abbrev merged-room : List ℤ
-  merged-room = laid (s .used) (mergeAt (placeOf (cheapest 0 w)) w) l
+  merged-room = laid (s .used) (mergeAt (placeOf (cheapest (s .settings .edition) 0 w)) w) l
 
   -- n buckets in the room m are those after the reading
   abbrev Taken : ℕ → List ℤ → Type 0
@@ -44,7 +44,7 @@ module _ (s : State) (l : List ℤ) (at k tick : ℕ) (v : ℤ) (w : Table) wher
     pub rests : s .used < limit (s .settings) k → Taken (suc (s .used)) (laid (suc (s .used)) w l)
     pub new : Filled (numbers (single tick v)) 1
     pub joins : Joining l (s .used) at (single tick v)
-    pub inside : limit (s .settings) k ≤ s .used → placeOf (cheapest 0 w) < s .used
+    pub inside : limit (s .settings) k ≤ s .used → placeOf (cheapest (s .settings .edition) 0 w) < s .used
     pub settles : limit (s .settings) k ≤ s .used → Settling (s .settings) k merged-room (s .used)
     pub settled : limit (s .settings) k ≤ s .used → Taken (length (settle (s .settings) (slots merged-room 0 (s .used)))) (laid (s .used) (settle (s .settings) (slots merged-room 0 (s .used))) merged-room)
 
@@ -86,35 +86,35 @@ module _ (s : State) (l : List ℤ) (at k tick : ℕ) (v : ℤ) (r : Ready s l a
     more : runs u < length u
     more = omega (arith, over, room-enough)
 
-    merges : mergeAt (placeOf (cheapest 0 u)) u ≡ merge u
-    merges = cheapest-place u more .1
+    merges : mergeAt (placeOf (cheapest (s .settings .edition) 0 u)) u ≡ merge (s .settings .edition) u
+    merges = cheapest-place (s .settings .edition) u more .1
 
-    shorter : length (merge u) ≡ s .used
-    shorter = omega (arith, merge-length u more, longer)
+    shorter : length (merge (s .settings .edition) u) ≡ s .used
+    shorter = omega (arith, merge-length (s .settings .edition) u more, longer)
 
-    found : slots (laid (s .used) (merge u) l) 0 (s .used) ≡ merge u
-    found = ap (slots (laid (s .used) (merge u) l) 0) (sym shorter) ∙ slots-laid (s .used) (merge u) l
+    found : slots (laid (s .used) (merge (s .settings .edition) u) l) 0 (s .used) ≡ merge (s .settings .edition) u
+    found = ap (slots (laid (s .used) (merge (s .settings .edition) u) l) 0) (sym shorter) ∙ slots-laid (s .used) (merge (s .settings .edition) u) l
 
-    can-settle : Settling (s .settings) k (laid (s .used) (merge u) l) (s .used)
+    can-settle : Settling (s .settings) k (laid (s .used) (merge (s .settings .edition) u) l) (s .used)
     can-settle =
         let few = counted s l facts u longer fitted rules allowed in
-        let fits-still : Fitted (merge u) = rw merges at (fitted-merge (placeOf (cheapest 0 u)) u fitted few) in
+        let fits-still : Fitted (merge (s .settings .edition) u) = rw merges at (fitted-merge (placeOf (cheapest (s .settings .edition) 0 u)) u fitted few) in
         record {
-          filled = subst (Filled (laid (s .used) (merge u) l)) shorter (filled-laid (s .used) (merge u) l (omega (arith, shorter)) (sound-filled s l facts .there) fits-still);
-          count = rw (found, merge-readings u more) few;
-          truth = rw (found, merge-runs u more) (r .truth);
+          filled = subst (Filled (laid (s .used) (merge (s .settings .edition) u) l)) shorter (filled-laid (s .used) (merge (s .settings .edition) u) l (omega (arith, shorter)) (sound-filled s l facts .there) fits-still);
+          count = rw (found, merge-readings (s .settings .edition) u more) few;
+          truth = rw (found, merge-runs (s .settings .edition) u more) (r .truth);
           enough = rw (r .truth) room-enough;
           small = limit-small;
         }
 
-    settles : settle (s .settings) (slots (laid (s .used) (merge u) l) 0 (s .used)) ≡ settle (s .settings) u
+    settles : settle (s .settings) (slots (laid (s .used) (merge (s .settings .edition) u) l) 0 (s .used)) ≡ settle (s .settings) u
     settles = rw found (sym (settle-merges (s .settings) u room-enough over))
 
-    settled-room : laid (s .used) (settle (s .settings) u) (laid (s .used) (merge u) l) ≡ laid (needed (s .settings)) (settle (s .settings) u) l
+    settled-room : laid (s .used) (settle (s .settings) u) (laid (s .used) (merge (s .settings .edition) u) l) ≡ laid (needed (s .settings)) (settle (s .settings) u) l
     settled-room =
         let w : Table = settle (s .settings) u in
         let short : length w ≤ s .used = omega (arith, settle-length (s .settings) (length u) u (omega arith) room-enough, over, longer) in
-        laid-laid (s .used) (merge u) l (omega (arith, shorter)) (s .used) w (omega arith) ∙ laid-used s l facts w short
+        laid-laid (s .used) (merge (s .settings .edition) u) l (omega (arith, shorter)) (s .used) w (omega arith) ∙ laid-used s l facts w short
 
   pub steps : Steps s l at k tick v (putAt at (single tick v) (tableOf s l))
   unfolding accept flat Fitted
@@ -128,7 +128,7 @@ module _ (s : State) (l : List ℤ) (at k tick : ℕ) (v : ℤ) (r : Ready s l a
         rests = λ h. rw (rest h) (sym longer, laid-needed s l facts u (omega (arith, longer)));
         new = record { there = omega arith; ranges = ranged-flat (single tick v ∷ []) [] (new, tt) };
         joins = record { filled = sound-filled s l facts; inside = r .inside; count = omega (arith, sound-readings s l facts) };
-        inside = λ h. omega (arith, cheapest-place u (more h) .0, longer);
+        inside = λ h. omega (arith, cheapest-place (s .settings .edition) u (more h) .0, longer);
         settles = λ h. rw (merges h) (can-settle h);
         settled = λ h. rw (merges h, settles h) (refl, settled-room h);
       })

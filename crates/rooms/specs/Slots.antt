@@ -32,9 +32,9 @@ pub record Joining (l : List ℤ) (n at : ℕ) (b : Bucket) : Type 0 where
 -- the place of the first of two neighbours, 0 where there are none
 unfoldable pub placeOf : Choice → ℕ
 placeOf nothing = 0
-placeOf (pair i s) = i
+placeOf (pair i s w) = i
 
 -- what two neighbours cost, above every spread where there are none
 unfoldable pub costOf : Choice → ℕ
 costOf nothing = word
-costOf (pair i s) = s
+costOf (pair i s w) = s

@@ -1,15 +1,15 @@
 -- H1 to H12 hold: both sides of each row compute to the same.
 use mathlib.Core.Path.{refl}
 use Rattle.rule.specs.Bucket.{distance, larger, lesser, middle}
-use Rattle.rule.specs.Table.{cheaper, cheapest, choice, holding, holds, insert, lastEnd, limitOver, merge, mergeAt, mergeOf, readings, runs, runsAfter, settle, settleIn, accept, worst}
+use Rattle.rule.specs.Table.{ahead, cheaper, cheapest, choice, holding, holds, insert, lastEnd, limitOver, merge, mergeAt, mergeOf, readings, runs, runsAfter, settle, settleIn, accept, weight, worst}
 use Rattle.rule.specs.Rules.{broken, equal, faultAt, firstFalse, firstFault, follows, isWhole, ruled, rules}
-use Rattle.rule.specs.Room.{allOf, allZero, bounded, clauses, flat, gapsGood, laid, ranged, restZero, roomy, runsAllowed, slot, slotRanged, slots, sound, within, zeros}
+use Rattle.rule.specs.Room.{allOf, allZero, bounded, clauses, editionGood, flat, gapsGood, laid, ranged, restZero, roomy, runsAllowed, slot, slotRanged, slots, sound, within, zeros}
 use Rattle.rule.specs.Bytes.{bits, bytes, reading, recordAt, saved, savedRecord, wordAt}
 use Rattle.rule.specs.Calls.{admitted, baseOf, checked, gapsKept, isHeld, late, lateVerdict, nextVerdict, sizeGood, traced, writeVerdict, wrote}
 use Rattle.rule.specs.ByHand.{ByHand, feed, feedTo, feedLate, feedLateTo, leaves, saves, start, worstTo}
 
 pub by-hand : ByHand
-unfolding distance larger lesser middle cheaper cheapest choice holding holds insert lastEnd limitOver merge mergeAt mergeOf readings runs runsAfter settle settleIn accept worst broken equal faultAt firstFalse firstFault follows isWhole ruled rules allOf allZero bounded clauses flat gapsGood laid ranged restZero roomy runsAllowed slot slotRanged slots sound within zeros bits bytes reading recordAt saved savedRecord wordAt admitted baseOf gapsKept isHeld late lateVerdict nextVerdict checked sizeGood traced writeVerdict wrote feed feedTo feedLate feedLateTo leaves saves start worstTo
+unfolding distance larger lesser middle ahead weight cheaper cheapest choice holding holds insert lastEnd limitOver merge mergeAt mergeOf readings runs runsAfter settle settleIn accept worst broken equal faultAt firstFalse firstFault follows isWhole ruled rules allOf allZero bounded clauses editionGood flat gapsGood laid ranged restZero roomy runsAllowed slot slotRanged slots sound within zeros bits bytes reading recordAt saved savedRecord wordAt admitted baseOf gapsKept isHeld late lateVerdict nextVerdict checked sizeGood traced writeVerdict wrote feed feedTo feedLate feedLateTo leaves saves start worstTo
 by-hand =
     record {
       h1 = refl;
@@ -40,4 +40,15 @@ by-hand =
       one-and-a-run = refl;
       no-size = refl;
       a-size = refl;
+      flat-first = refl;
+      flat-second = refl;
+      late-first = refl;
+      late-second = refl;
+      closed-first = refl;
+      closed-second = refl;
+      spread-before-ticks = refl;
+      start-among-equal-ticks = refl;
+      no-edition = refl;
+      an-edition = refl;
+      edition-number = refl;
     }

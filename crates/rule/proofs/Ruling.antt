@@ -155,13 +155,13 @@ unfolding Ruled
 merged-ruled k a b touching e [] r h = (union-meets k e a b touching (h .0) (h .1 .0), subst (λ (x : ℕ). Ruled k x r) (sym (union-end a b touching)) (h .1 .1))
 merged-ruled k a b touching e (x ∷ l) r h = (h .0, merged-ruled k a b touching (end x) l r (h .1))
 
-pub merge-ruled : (k : Kind) (e : ℕ) (t : Table) → runs t < length t → Ruled k e t → Ruled k e (merge t)
-merge-ruled k e t h r =
-    let w = merges t h in
+pub merge-ruled : (d : ℕ) (k : Kind) (e : ℕ) (t : Table) → runs t < length t → Ruled k e t → Ruled k e (merge d t)
+merge-ruled d k e t h r =
+    let w = merges d t h in
     subst (Ruled k e) (sym (w .leaves)) (merged-ruled k (w .these .first) (w .these .second) (w .these .touching) e (w .these .left) (w .these .right) (subst (Ruled k e) (w .these .stands) r))
 
 pub settle-ruled : (s : Settings) (k : Kind) (e : ℕ) (t : Table) → Enough s t → Ruled k e t → Ruled k e (settle s t)
-settle-ruled s k e t enough r = settle-keeps s (Ruled k e) (λ u h p. merge-ruled k e u h p) (length t) t (omega arith) enough r
+settle-ruled s k e t enough r = settle-keeps s (Ruled k e) (λ u h p. merge-ruled (s .edition) k e u h p) (length t) t (omega arith) enough r
 
 -- ---- a reading
 

@@ -1,7 +1,7 @@
 -- The number and the place of each refusal.
 use Prim.Native.Nat.{ℕ}
 use Rattle.rule.specs.declared.Refusal.{Refusal}
-use Rattle.rule.specs.declared.Refusal.the-variants.{Steps, Gaps, Room, Unsound, Kind, Tick, Length, Record, Runs, Overfull, Taken, Absent, Short, Line, Caption}
+use Rattle.rule.specs.declared.Refusal.the-variants.{Steps, Gaps, Room, Unsound, Kind, Tick, Length, Record, Runs, Overfull, Taken, Absent, Short, Line, Caption, Edition}
 
 abbrev pub number : Refusal → ℕ
 number Steps = 1
@@ -19,6 +19,7 @@ number Absent = 12
 number Short = 13
 number Line = 14
 number Caption = 15
+number Edition = 16
 
 -- 0 but for the index of a record that breaks a rule
 abbrev pub place : Refusal → ℕ
@@ -37,3 +38,4 @@ place Absent = 0
 place Short = 0
 place Line = 0
 place Caption = 0
+place Edition = 0

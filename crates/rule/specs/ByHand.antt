@@ -1,4 +1,4 @@
--- The traces worked by hand in document 01, H1 to H12 (H6 and H7 with their levels rounded down), as one table: what the calls answer and leave in a room of one number more than is needed; and beyond them odd tables, and the bounds of B and C in no room.
+-- The traces worked by hand in document 01, H1 to H12 (H6 and H7 with their levels rounded down), as one table: what the calls answer and leave in a room of one number more than is needed; and beyond them odd tables, the bounds of B and C and the editions in no room, and traces of which each edition leaves other buckets.
 use Prim.Native.Nat.{ℕ, _*_, suc}
 use mathlib.Core.Path.{_≡_}
 use mathlib.Core.List.{List, [], _∷_, _++_}
@@ -30,17 +30,24 @@ abbrev pub Named : Type 0
 Named = ℕ × ℤ
 
 abbrev pub inOrder : Size → Opening
-inOrder z = record { kind = InOrder; size = z; gaps = 0 }
+inOrder z = record { kind = InOrder; size = z; gaps = 0; edition = 1 }
 
 abbrev pub gappy : Size → ℕ → Opening
-gappy z k = record { kind = Late; size = z; gaps = k }
+gappy z k = record { kind = Late; size = z; gaps = k; edition = 1 }
 
 -- what is kept of them
 abbrev pub ofBase : ℕ → Settings
-ofBase c = record { kind = InOrder; base = c; gaps = 0 }
+ofBase c = record { kind = InOrder; base = c; gaps = 0; edition = 1 }
 
 abbrev pub gappyBase : ℕ → ℕ → Settings
-gappyBase c k = record { kind = Late; base = c; gaps = k }
+gappyBase c k = record { kind = Late; base = c; gaps = k; edition = 1 }
+
+-- the same with another edition
+abbrev pub edited : ℕ → Opening → Opening
+edited e o = record { kind = o .kind; size = o .size; gaps = o .gaps; edition = e }
+
+abbrev pub second : Settings → Settings
+second s = record { kind = s .kind; base = s .base; gaps = s .gaps; edition = 2 }
 
 -- opened in a room of sevens
 unfoldable pub start : Opening → Now
@@ -99,6 +106,13 @@ lengthened =
     leaves (gappyBase 2 2)
     (bucket 0 3 (pos 1) (pos 4) ∷ bucket 3 2 (pos 8) (pos 9) ∷ bucket 5 2 (pos 2) (pos 3) ∷ bucket 8 1 (pos 0) (pos 0) ∷ []) 4 2 8 1
 
+-- equal readings, late: four ticks and two behind a gap; and two and two with a tick between them, which comes last
+abbrev pub flatLate : List Named
+flatLate = (0, pos 5) ∷ (1, pos 5) ∷ (2, pos 5) ∷ (3, pos 5) ∷ (10, pos 5) ∷ (9, pos 5) ∷ []
+
+abbrev pub flatClosed : List Named
+flatClosed = (0, pos 5) ∷ (1, pos 5) ∷ (3, pos 5) ∷ (4, pos 5) ∷ (2, pos 5) ∷ []
+
 -- 0x00010203, 0x00040506, minus 0x00010203, 0x01020304
 abbrev pub unlike : Bucket
 unlike = bucket 66051 263430 (negsuc 66050) (pos 16909060)
@@ -140,3 +154,19 @@ pub record ByHand : Type 0 where
   pub no-size : opened (inOrder (Steps 0)) [] ∷ opened (inOrder (Steps 257)) [] ∷ opened (inOrder (Base 0)) [] ∷ opened (inOrder (Base 513)) [] ∷ opened (inOrder (Steps 9223372036854775809)) [] ∷ []
       ≡ replicate 5 (refused Refusal.Steps, [])
   pub a-size : opened (inOrder (Steps 1)) [] ∷ opened (inOrder (Steps 256)) [] ∷ opened (inOrder (Base 1)) [] ∷ opened (inOrder (Base 512)) [] ∷ [] ≡ replicate 4 (refused Refusal.Room, [])
+  -- the editions where they differ. Of four equal readings the first swallows the left side; late so do the ticks before a gap, where the second merges the two behind it
+  pub flat-first : feed (replicate 4 (pos 5)) (start (inOrder (Steps 1))) ≡ leaves (ofBase 2) (bucket 0 3 (pos 5) (pos 5) ∷ bucket 3 1 (pos 5) (pos 5) ∷ []) 2 1 4 1
+  pub flat-second : feed (replicate 4 (pos 5)) (start (edited 2 (inOrder (Steps 1)))) ≡ leaves (second (ofBase 2)) (bucket 0 2 (pos 5) (pos 5) ∷ bucket 2 2 (pos 5) (pos 5) ∷ []) 2 1 4 1
+  pub late-first : feedLate flatLate (start (gappy (Base 1) 2)) ≡ leaves (gappyBase 1 2) (bucket 0 4 (pos 5) (pos 5) ∷ bucket 9 1 (pos 5) (pos 5) ∷ bucket 10 1 (pos 5) (pos 5) ∷ []) 3 2 6 1
+  pub late-second : feedLate flatLate (start (edited 2 (gappy (Base 1) 2))) ≡ leaves (second (gappyBase 1 2)) (bucket 0 2 (pos 5) (pos 5) ∷ bucket 2 2 (pos 5) (pos 5) ∷ bucket 9 2 (pos 5) (pos 5) ∷ []) 3 2 6 1
+  -- a run closes, and two merges are made
+  pub closed-first : feedLate flatClosed (start (gappy (Base 1) 2)) ≡ leaves (gappyBase 1 2) (bucket 0 4 (pos 5) (pos 5) ∷ bucket 4 1 (pos 5) (pos 5) ∷ []) 2 1 5 2
+  pub closed-second : feedLate flatClosed (start (edited 2 (gappy (Base 1) 2))) ≡ leaves (second (gappyBase 1 2)) (bucket 0 2 (pos 5) (pos 5) ∷ bucket 2 3 (pos 5) (pos 5) ∷ []) 2 1 5 2
+  -- the smaller spread before the fewest ticks, and of equal ticks the lowest start
+  pub spread-before-ticks : feed (pos 5 ∷ pos 5 ∷ pos 5 ∷ pos 9 ∷ []) (start (edited 2 (inOrder (Steps 1)))) ≡ leaves (second (ofBase 2)) (bucket 0 3 (pos 5) (pos 5) ∷ bucket 3 1 (pos 9) (pos 9) ∷ []) 2 1 4 1
+  pub start-among-equal-ticks : feed (replicate 3 (pos 5)) (start (edited 2 (inOrder (Steps 1)))) ≡ leaves (second (ofBase 2)) (bucket 0 2 (pos 5) (pos 5) ∷ bucket 2 1 (pos 5) (pos 5) ∷ []) 2 1 3 1
+  -- other numbers are refused before a bad B: 0, 3, 2 to the 63, and 2 to the 32 and one
+  pub no-edition : opened (edited 0 (inOrder (Steps 0))) [] ∷ opened (edited 3 (inOrder (Steps 0))) [] ∷ opened (edited 9223372036854775808 (inOrder (Steps 0))) [] ∷ opened (edited 4294967297 (inOrder (Steps 0))) [] ∷ []
+      ≡ replicate 4 (refused Refusal.Edition, [])
+  pub an-edition : opened (edited 1 (inOrder (Steps 0))) [] ∷ opened (edited 2 (inOrder (Steps 0))) [] ∷ [] ≡ replicate 2 (refused Refusal.Steps, [])
+  pub edition-number : number Refusal.Edition ≡ 16

@@ -23,7 +23,7 @@ use Rattle.rule.specs.Numbers.{most, ticks, recordWidth, tallyMost}
 use Rattle.rule.specs.Bucket.{level, error}
 use Rattle.rule.specs.Table.{Table, accept, holding, insert, limit, needed, nextTick, readings, runs, single, worst}
 use Rattle.rule.specs.Rules.{firstFault, placeOr, ruled}
-use Rattle.rule.specs.Room.{baseGood, bounded, gapsGood, laid, roomy, runsAllowed, sound, tableOf}
+use Rattle.rule.specs.Room.{baseGood, bounded, editionGood, gapsGood, laid, roomy, runsAllowed, sound, tableOf}
 use Rattle.rule.specs.Bytes.{recordsOf, saved}
 
 -- ---- a refusal, or what was asked
@@ -76,9 +76,9 @@ baseOf (Base c) = c
 
 -- what the state keeps of an opening
 abbrev pub kept : Opening → Settings
-kept o = record { kind = o .kind; base = baseOf (o .size); gaps = gapsKept (o .kind) (o .gaps) }
+kept o = record { kind = o .kind; base = baseOf (o .size); gaps = gapsKept (o .kind) (o .gaps); edition = o .edition }
 
--- ---- open: 1, 2, 3
+-- ---- open: 16, 1, 2, 3
 
 -- B is 1 to 256, C is 1 to 512
 unfoldable pub sizeGood : Size → Bool
@@ -89,7 +89,8 @@ sizeGood (Base c) = baseGood c
 unfoldable pub admitted : Opening → List ℤ → Verdict Table → Verdict Table
 admitted o l v =
     checked
-    ((not (sizeGood (o .size)), Refusal.Steps)
+    ((not (editionGood (o .edition)), Refusal.Edition)
+    ∷ (not (sizeGood (o .size)), Refusal.Steps)
     ∷ (not (gapsGood (kept o .kind) (kept o .gaps)), Refusal.Gaps)
     ∷ (not (roomy (kept o) l), Refusal.Room)
     ∷ []) v
@@ -176,7 +177,7 @@ rowOutcome s l out = wrote (λ t. t) out (writeVerdict s l (s .used) (length out
 abbrev pub saveOutcome : State → List ℤ → List ℕ → Written × List ℕ
 saveOutcome s l out = wrote saved out (writeVerdict s l (recordWidth * s .used) (length out))
 
--- ---- load: 1, 2, 3, 7, 8, 9, 10
+-- ---- load: 16, 1, 2, 3, 7, 8, 9, 10
 
 -- what load asks of a file, once settings and room are admitted
 unfoldable pub fileVerdict : Settings → List ℕ → Verdict Table

@@ -1,6 +1,6 @@
 -- How a table lies in the lent numbers, four to a slot, and when state and room are sound.
 use Prim.Native.Nat.{ℕ, zero, suc, _+_, _*_, _-_}
-use mathlib.Core.Bool.{Bool, true, _&&_}
+use mathlib.Core.Bool.{Bool, true, _&&_, _||_}
 use mathlib.Core.List.{List, [], _∷_, _++_}
 use lib.Dec.{eqb, leb}
 use lib.IntN.{ℤ, pos, natAbs, negℤ}
@@ -50,6 +50,10 @@ abbrev pub tableOf : State → List ℤ → Table
 tableOf s l = slots l 0 (s .used)
 
 -- ---- soundness, clause by clause
+
+-- the edition is 1 or 2
+unfoldable pub editionGood : ℕ → Bool
+editionGood e = eqb e 1 || eqb e 2
 
 -- 1 to the top
 unfoldable pub bounded : ℕ → ℕ → Bool
@@ -106,7 +110,8 @@ allOf (c ∷ l) = c && allOf l
 -- that the slots in use are as many as the state says is that each of them meets the rules and those behind are zeros
 unfoldable pub clauses : State → List ℤ → List Bool
 clauses s l =
-    baseGood (s .settings .base)
+    editionGood (s .settings .edition)
+    ∷ baseGood (s .settings .base)
     ∷ gapsGood (s .settings .kind) (s .settings .gaps)
     ∷ runsAllowed (s .settings .kind) (s .settings .gaps) (s .runs)
     ∷ roomy (s .settings) l

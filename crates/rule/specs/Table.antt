@@ -1,8 +1,8 @@
 -- The table, its buckets in tick order, and the merge rule of document 01.
 -- Source 003 merges where its Algorithm 1 tests "at least" the limit, changes k only while the table is full and has no tie rule; here, as 01 decides:
--- "more than" the limit, k always the number of runs, and the lowest start.
+-- "more than" the limit, k always the number of runs, and among equals the lowest start; in edition 2 the fewest ticks, and then the lowest start.
 use Prim.Native.Nat.{ℕ, zero, suc, _+_, _≤_, max}
-use mathlib.Core.Bool.{Bool, cond, _&&_}
+use mathlib.Core.Bool.{Bool, cond, _&&_, _||_}
 use mathlib.Core.List.{List, [], _∷_}
 use mathlib.Core.Option.{Option, some, none}
 use lib.Dec.{eqb, leb, ltb}
@@ -81,25 +81,33 @@ needed s = limit s (s .gaps) + 1
 
 -- ---- the merge rule
 
--- two neighbours, by the place of the first, with the spread of their union; or nothing
+-- what decides among equal spreads, before the lowest start: in edition 2 the ticks of the union, in edition 1 nothing
+unfoldable pub weight : ℕ → Bucket → ℕ
+weight e b = cond (eqb e 2) (b .count) 0
+
+-- two neighbours, by the place of the first, with the spread of their union and its weight; or nothing
 pub data Choice : Type 0 where
   nothing : Choice
-  pair : ℕ → ℕ → Choice
+  pair : ℕ → ℕ → ℕ → Choice
 
-unfoldable pub choice : ℕ → Bucket → Bucket → Choice
-choice i a b = cond (neighbours a b) (pair i (spread (union a b))) nothing
+unfoldable pub choice : ℕ → ℕ → Bucket → Bucket → Choice
+choice e i a b = cond (neighbours a b) (pair i (spread (union a b)) (weight e (union a b))) nothing
 
--- the tie rule: the first, unless the second has the smaller spread
+-- a smaller spread, or an equal one and no greater weight
+unfoldable pub ahead : ℕ → ℕ → ℕ → ℕ → Bool
+ahead s w r x = ltb s r || (eqb s r && leb w x)
+
+-- the tie rule: the first, unless the second has the smaller spread, or an equal one and the smaller weight
 unfoldable pub cheaper : Choice → Choice → Choice
 cheaper nothing q = q
-cheaper (pair i s) nothing = pair i s
-cheaper (pair i s) (pair j r) = cond (leb s r) (pair i s) (pair j r)
+cheaper (pair i s w) nothing = pair i s w
+cheaper (pair i s w) (pair j r x) = cond (ahead s w r x) (pair i s w) (pair j r x)
 
--- the neighbours whose union has the smallest spread, among equals those with the lowest start; i is the place of the table's first bucket
-unfoldable pub cheapest : ℕ → Table → Choice
-cheapest i [] = nothing
-cheapest i (a ∷ []) = nothing
-cheapest i (a ∷ b ∷ t) = cheaper (choice i a b) (cheapest (suc i) (b ∷ t))
+-- the neighbours whose union has the smallest spread, among equals in edition 2 the fewest ticks, among these the lowest start; i is the place of the table's first bucket
+unfoldable pub cheapest : ℕ → ℕ → Table → Choice
+cheapest e i [] = nothing
+cheapest e i (a ∷ []) = nothing
+cheapest e i (a ∷ b ∷ t) = cheaper (choice e i a b) (cheapest e (suc i) (b ∷ t))
 
 -- the bucket at a place and the one after it become their union
 unfoldable pub mergeAt : ℕ → Table → Table
@@ -110,15 +118,15 @@ mergeAt (suc i) (a ∷ b ∷ t) = a ∷ mergeAt i (b ∷ t)
 
 unfoldable pub mergeOf : Choice → Table → Table
 mergeOf nothing t = t
-mergeOf (pair i s) t = mergeAt i t
+mergeOf (pair i s w) t = mergeAt i t
 
-unfoldable pub merge : Table → Table
-merge t = mergeOf (cheapest 0 t) t
+unfoldable pub merge : ℕ → Table → Table
+merge e t = mergeOf (cheapest e 0 t) t
 
 -- while the buckets are more than the limit, merge; at most n times
 unfoldable pub settleIn : ℕ → Settings → Table → Table
 settleIn zero s t = t
-settleIn (suc n) s t = let u = settleIn n s (merge t) in cond (leb (length t) (limit s (runs t))) t u
+settleIn (suc n) s t = let u = settleIn n s (merge (s .edition) t) in cond (leb (length t) (limit s (runs t))) t u
 
 -- the table's length is merges enough
 unfoldable pub settle : Settings → Table → Table

@@ -34,18 +34,20 @@ pub enum Size {
     Base(usize),
 }
 
-// What a trace is opened, loaded or replayed with: its kind, B or C, and K.
+// What a trace is opened, loaded or replayed with: its kind, B or C, K, and the edition of the tie rule.
 pub struct Opening {
     pub kind: Kind,
     pub size: Size,
     pub gaps: usize,
+    pub edition: usize,
 }
 
-// What the state keeps of it: its kind, C and K.
+// What the state keeps of it: its kind, C, K and the edition.
 pub struct Settings {
     pub kind: Kind,
     pub base: usize,
     pub gaps: usize,
+    pub edition: usize,
 }
 
 // The trace's state, handed back by each call.
@@ -73,6 +75,7 @@ pub enum Refusal {
     Short,
     Line,
     Caption,
+    Edition,
 }
 
 // What lookup answers: the holding bucket's level, error, least and largest.

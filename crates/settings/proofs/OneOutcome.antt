@@ -3,6 +3,7 @@ use Rattle.rule.specs.Outcomes.{OneOutcome}
 use Rattle.rule.proofs.Determined.{by-result}
 use Rattle.settings.proofs.is_late as is-late
 use Rattle.settings.proofs.bounded as bounded
+use Rattle.settings.proofs.edition_good as edition-good
 use Rattle.settings.proofs.gaps_good as gaps-good
 use Rattle.settings.proofs.runs_allowed as runs-allowed
 use Rattle.settings.proofs.limit as limit
@@ -13,6 +14,9 @@ is-late-one M 𝓤 H A mem run κs a g r r′ l l′ = by-result 𝓤
 
 pub bounded-one : OneOutcome bounded.ended (λ M. bounded.clauses)
 bounded-one M 𝓤 H A mem run κs a g r r′ l l′ = by-result 𝓤
+
+pub edition-good-one : OneOutcome edition-good.ended (λ M. edition-good.clauses)
+edition-good-one M 𝓤 H A mem run κs a g r r′ l l′ = by-result 𝓤
 
 pub gaps-good-one : OneOutcome gaps-good.ended (λ M. gaps-good.clauses)
 gaps-good-one M 𝓤 H A mem run κs a g r r′ l l′ = by-result 𝓤

@@ -2,7 +2,7 @@
 ghost use mathlib.Core.Path.{_≡_};
 ghost use Prim.Native.Nat.{_<_, _^_};
 ghost use Rattle.rule.specs.Calls.{late};
-ghost use Rattle.rule.specs.Room.{bounded, gapsGood, runsAllowed};
+ghost use Rattle.rule.specs.Room.{bounded, editionGood, gapsGood, runsAllowed};
 ghost use Rattle.rule.specs.Table.{limit, needed};
 use rule::Kind;
 use rule::MOST;
@@ -22,6 +22,13 @@ pub fn bounded(n: usize, top: usize) -> bool
     ensures { λ r. ⌜ r ≡ bounded top n ⌝ }
 {
     1 <= n && n <= top
+}
+
+// 1 or 2.
+pub fn edition_good(edition: usize) -> bool
+    ensures { λ r. ⌜ r ≡ editionGood edition ⌝ }
+{
+    edition == 1 || edition == 2
 }
 
 pub fn gaps_good(kind: Kind, gaps: usize) -> bool

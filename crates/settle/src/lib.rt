@@ -14,10 +14,11 @@ pub fn settle(s: Settings, runs: usize, room: &mut [i64], used: usize) -> usize
     requires { ⌜ Settling s runs (now room) used ⌝ }
     ensures { λ r. ⌜ (r ≡ length (settle s (slots (now (room .entry)) 0 used))) × (now (room .exit) ≡ laid used (settle s (slots (now (room .entry)) 0 used)) (now (room .entry))) ⌝ }
 {
+    let edition = s.edition;
     let most = limit(s, runs);
     let mut left = used;
     while most < left {
-        let at = cheapest(&*room, left);
+        let at = cheapest(edition, &*room, left);
         merge(&mut *room, left, at);
         left -= 1;
     }

@@ -8,7 +8,7 @@ use lib.Dec.{leb}
 use lib.IntN.{ℤ}
 use lib.ListN.{getD}
 use Rattle.rule.specs.declared.State.{State}
-use Rattle.rule.specs.Room.{allOf, baseGood, clauses, gapsGood, restZero, roomy, runsAllowed, sound}
+use Rattle.rule.specs.Room.{allOf, baseGood, clauses, editionGood, gapsGood, restZero, roomy, runsAllowed, sound}
 use Rattle.rule.specs.Table.{limit}
 use Rattle.passes.proofs.Tests.{fails}
 use Rattle.passes.proofs.Scanning.{scanned}
@@ -16,7 +16,8 @@ use Rattle.rooms.proofs.Bounds.{limit-gaps, mostAllowed, needed-small}
 
 abbrev pub tests : State → List ℤ → List Bool
 tests s l =
-    baseGood (s .settings .base)
+    editionGood (s .settings .edition)
+    ∷ baseGood (s .settings .base)
     ∷ gapsGood (s .settings .kind) (s .settings .gaps)
     ∷ runsAllowed (s .settings .kind) (s .settings .gaps) (s .runs)
     ∷ roomy (s .settings) l

@@ -7,6 +7,7 @@ use rule::MOST_BASE;
 use rule::SLOT;
 use rule::State;
 use settings::bounded;
+use settings::edition_good;
 use settings::gaps_good;
 use settings::limit;
 use settings::needed;
@@ -18,6 +19,9 @@ pub fn sound(s: State, room: &[i64]) -> bool
 {
     let settings = s.settings;
     let kind = settings.kind;
+    if !edition_good(settings.edition) {
+        return false;
+    }
     if !bounded(settings.base, MOST_BASE) {
         return false;
     }

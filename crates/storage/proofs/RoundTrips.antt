@@ -68,7 +68,7 @@ module _ (s : State) (l : List ℤ) (whole : sound s l ≡ true) where
     again : loaded o (saved (tableOf s l)) m ≡ (accepted s, laid (needed (s .settings)) (tableOf s l) m)
     again =
         let file : List ℕ = saved (tableOf s l) in
-        let g : Granted (s .settings) m = record { base = facts .base-good; gaps = facts .gaps-good; long = long } in
+        let g : Granted (s .settings) m = record { edition = facts .edition-good; base = facts .base-good; gaps = facts .gaps-good; long = long } in
         load-leaves o file m (subst (λ (k : Settings). Granted k m) (sym names) g) (subst (λ (k : Settings). Loads k file) (sym names) loads)
         ∙ ap (λ (k : Settings). (accepted (stateOf k (recordsOf file)), laid (needed k) (recordsOf file) m)) names
         ∙ ap (λ (t : Table). (accepted (stateOf (s .settings) t), laid (needed (s .settings)) t m)) same-records
@@ -89,7 +89,7 @@ module _ (s : State) (l : List ℤ) (whole : sound s l ≡ true) where
   laid-again m long =
       ap (λ (r : State). sound r (laid (needed (s .settings)) (tableOf s l) m)) (sym state-same)
       ∙ facts-sound _ _
-      (laid-facts (s .settings) (tableOf s l) m (facts .base-good) (facts .gaps-good) (rw (← facts .true-runs) (facts .allowed)) long (rw (← facts .true-runs) (omega (arith, facts .few, length-slots l 0 (s .used)))) (fitted-slots l 0 (s .used) (facts .ranges)) (facts .rules))
+      (laid-facts (s .settings) (tableOf s l) m (facts .edition-good) (facts .base-good) (facts .gaps-good) (rw (← facts .true-runs) (facts .allowed)) long (rw (← facts .true-runs) (omega (arith, facts .few, length-slots l 0 (s .used)))) (fitted-slots l 0 (s .used) (facts .ranges)) (facts .rules))
 
 -- ---- loaded, then saved
 
@@ -112,7 +112,7 @@ module _ (o : Opening) (file : List ℕ) (l : List ℤ) (t : State) (known : All
   laid-sound : sound (stateOf (kept o) (recordsOf file)) (laid (needed (kept o)) (recordsOf file) l) ≡ true
   laid-sound =
       facts-sound _ _
-      (laid-facts (kept o) (recordsOf file) l (granted .base) (granted .gaps) (that-loads .allowed) (granted .long) (that-loads .few) (file-fitted file known) (that-loads .rules))
+      (laid-facts (kept o) (recordsOf file) l (granted .edition) (granted .base) (granted .gaps) (that-loads .allowed) (granted .long) (that-loads .few) (file-fitted file known) (that-loads .rules))
 
   sound-again : sound t (loaded o file l .1) ≡ true
   sound-again = ap (λ (r : State). sound r (loaded o file l .1)) state-is ∙ ap (sound (stateOf (kept o) (recordsOf file))) room-is ∙ laid-sound

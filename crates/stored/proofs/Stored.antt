@@ -13,7 +13,7 @@ use Rattle.rule.specs.declared.State.{State}
 use Rattle.rule.specs.declared.Refusal.{Refusal}
 use Rattle.rule.specs.Calls.{Verdict, accepted, baseOf, gapsKept, kept, opened, stateOf, traced}
 use Rattle.rule.specs.Numbers.{slotWidth}
-use Rattle.rule.specs.Room.{bounded, flat, gapsGood, laid, within, zeros}
+use Rattle.rule.specs.Room.{bounded, editionGood, flat, gapsGood, laid, within, zeros}
 use Rattle.rule.specs.Table.{limitOver, needed}
 use Rattle.rule.proofs.Whole.{by-test}
 use Rattle.rooms.proofs.Granting.{Granted, admits}
@@ -91,7 +91,7 @@ beside v l = (v, l)
 
 -- opened by default, a room of zeros stays one
 open-by-default : (d : ℕ) → Openable d → opened (inOrder d) (zeros roomSize) ≡ (accepted (stateOf (kept (inOrder d)) []), zeros roomSize)
-unfolding baseOf bounded gapsGood gapsKept laid flat limitOver traced zeros
+unfolding baseOf bounded editionGood gapsGood gapsKept laid flat limitOver traced zeros
 open-by-default d good =
     let o : Opening = inOrder d in
     let state = accepted (stateOf (kept o) []) in
@@ -99,7 +99,7 @@ open-by-default d good =
     let all : slotWidth * (needed (kept o) - 0) ≡ n = omega arith in
     let long : n ≤ roomSize = omega (arith, good .most) in
     let room : length (zeros roomSize) ≡ roomSize = length-replicate roomSize (pos 0) in
-    let granted : Granted (kept o) (zeros roomSize) = record { base = rw (le-leb 1 (2 * d) (omega (arith, good .least)), le-leb (2 * d) 512 (omega (arith, good .most))); gaps = refl; long = omega (arith, long, room) } in
+    let granted : Granted (kept o) (zeros roomSize) = record { edition = refl; base = rw (le-leb 1 (2 * d) (omega (arith, good .least)), le-leb (2 * d) 512 (omega (arith, good .most))); gaps = refl; long = omega (arith, long, room) } in
     rw (admits o (zeros roomSize) granted (accepted []))
     (ap (λ (a : ℕ). beside state (zeros a ++ drop n (zeros roomSize))) all ∙ ap (beside state) (zeros-again n roomSize long))
 

@@ -99,10 +99,7 @@ impl Script {
 
     /// Of the kind of the trace at hand.
     fn one_reading(&mut self, tick: u32, value: i32) {
-        match self.session.state.kind {
-            Kind::InOrder => self.next(value),
-            Kind::Late => self.late(tick, value),
-        }
+        self.read_in(self.session.state.kind, tick, value);
     }
 
     /// Past the limit by a third and more, of few levels and of the whole range.

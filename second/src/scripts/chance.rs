@@ -4,19 +4,20 @@
 use crate::calls::{self, Size, MOST_BASE, MOST_GAPS, MOST_STEPS, RECORD_BYTES, SLOT};
 use crate::command::{Name, Word};
 use crate::logger::{Frame, FRAME_BYTES};
-use crate::made;
+use crate::made::{self, NO_EDITIONS};
 use crate::picture;
 use crate::rule::{self, Bucket, Kind, TICKS};
 use crate::script::Script;
 use crate::session::{FILE_RECORDS, NUMBERS, PLACES};
 
-const FIELDS: [Name; 6] = [
+const FIELDS: [Name; 7] = [
     Name::Kind,
     Name::Base,
     Name::Gaps,
     Name::Used,
     Name::Runs,
     Name::Readings,
+    Name::Edition,
 ];
 
 /// The last record of the file, by way of which two are swapped.
@@ -87,6 +88,10 @@ impl Script {
     fn refused_open(&mut self, kind: Kind, size: Size, gaps: u64) {
         let base = size.base().expect("a size in bounds");
         let fitting = calls::needed_numbers(kind, base, gaps);
+        if self.chance(4) {
+            self.in_no_edition(|script| script.any_open(kind, size, gaps, fitting));
+            return;
+        }
         let (size, gaps, lent) = match self.random.below(3) {
             0 => (self.size_beyond(), gaps, fitting),
             1 => (size, self.beyond(MOST_GAPS), fitting),
@@ -98,7 +103,30 @@ impl Script {
         self.open(kind, size, gaps, lent);
     }
 
-    fn size_beyond(&mut self) -> Size {
+    /// What the commands open, load and replay is in an edition that there is not.
+    fn in_no_edition(&mut self, commands: impl FnOnce(&mut Script)) {
+        let edition = self.random.choice(&NO_EDITIONS);
+        self.in_edition(edition, commands);
+    }
+
+    /// By these settings or by one that is out of bounds; in a room that they fit or in a short one.
+    fn any_open(&mut self, kind: Kind, size: Size, gaps: u64, fitting: usize) {
+        let size = match self.random.below(4) {
+            0 => self.size_beyond(),
+            _ => size,
+        };
+        let gaps = match self.random.below(4) {
+            0 => self.beyond(MOST_GAPS),
+            _ => gaps,
+        };
+        let lent = match self.random.below(4) {
+            0 => fitting - 1,
+            _ => fitting,
+        };
+        self.open(kind, size, gaps, lent);
+    }
+
+    pub(super) fn size_beyond(&mut self) -> Size {
         let wraps = 1 << 63 | self.random.below(257);
         match self.random.below(5) {
             0 => Size::Steps(wraps),
@@ -107,7 +135,7 @@ impl Script {
         }
     }
 
-    fn beyond(&mut self, most: u64) -> u64 {
+    pub(super) fn beyond(&mut self, most: u64) -> u64 {
         let wide = self.random.number() | 1 << 32;
         self.random
             .choice(&[0, most + 1, 65_536, 1 << 32, (1 << 32) + 1, wide, u64::MAX])
@@ -307,6 +335,7 @@ impl Script {
         let field = self.session.fields()[which];
         let changed = match name {
             Name::Kind => made::other_kind(&mut self.random, field),
+            Name::Edition => made::other_edition(&mut self.random, field),
             _ => made::other_field(&mut self.random, field),
         };
         self.state(name, changed);
@@ -439,7 +468,13 @@ impl Script {
             self.file_length(length);
         }
         let kind = self.random.choice(&[0, 1, 7, 1 << 32, u64::MAX]);
-        self.replay_as(kind, size, gaps);
+        if self.chance(9) {
+            self.in_no_edition(|script| {
+                script.replay_as(kind, size, gaps);
+            });
+        } else {
+            self.replay_as(kind, size, gaps);
+        }
     }
 
     fn load_by(&mut self, kind: Kind, base: u64, gaps: u64) {
@@ -448,11 +483,12 @@ impl Script {
         self.load_as(number, size, gaps);
     }
 
-    /// By settings out of bounds, too small for the file or too large for the room, of the other kind, or in a room that is short.
+    /// By settings out of bounds, too small for the file or too large for the room, of the other kind, in an edition that there is not, or in a room
+    /// that is short.
     fn load_otherwise(&mut self) {
         let state = self.session.state;
         let (kind, base, gaps) = (state.kind, state.base, state.gaps);
-        match self.random.below(8) {
+        match self.random.below(9) {
             0 => {
                 let number = self.number_of(kind);
                 let size = self.size_beyond();
@@ -467,6 +503,7 @@ impl Script {
             4 => self.load_by(kind, base.saturating_add(1), gaps),
             5 => self.load_by(Kind::InOrder, base, gaps),
             6 => self.load_by(Kind::Late, base.saturating_sub(2), 1),
+            7 => self.in_no_edition(|script| script.load_by(kind, base, gaps)),
             _ => {
                 let lent = self.session.lent;
                 let short = self.random.choice(&[1, 4, 9]);

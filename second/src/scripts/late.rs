@@ -14,7 +14,7 @@ pub fn heading(order: u8) -> String {
 }
 
 pub fn write(script: &mut Script) {
-    script.worked_late(true);
+    script.in_each_edition(|script| script.worked_late(true));
     for order in ORDERS {
         script.heading(&heading(order));
         script.short_late(order);
@@ -23,10 +23,10 @@ pub fn write(script: &mut Script) {
 }
 
 impl Script {
-    /// H8 to H11, shown after each reading where that is asked for, and lookups about every tick.
+    /// H8 to H11 and a trace in which the editions differ, shown after each reading where that is asked for, and lookups about every tick.
     pub(super) fn worked_late(&mut self, shown: bool) {
         self.heading("# worked by hand, late");
-        let traces: [&[(u32, i32)]; 2] = [
+        let traces: [&[(u32, i32)]; 3] = [
             &[
                 (0, 1),
                 (1, 4),
@@ -40,6 +40,17 @@ impl Script {
                 (10, 0),
             ],
             &[(0, 1), (2, 5), (1, 9)],
+            // At tick 3 the gap between two flat stretches closes, which takes two merges.
+            &[
+                (0, 5),
+                (1, 5),
+                (2, 5),
+                (5, 5),
+                (6, 5),
+                (4, 5),
+                (3, 5),
+                (7, 5),
+            ],
         ];
         for readings in traces {
             self.open_fitting(Kind::Late, Size::Steps(1), 2);

@@ -4,6 +4,7 @@ pub mod arrivals;
 pub mod base;
 pub mod buckets;
 pub mod chance;
+pub mod edition;
 pub mod files;
 pub mod late;
 pub mod long;
@@ -21,9 +22,9 @@ use crate::arrivals::ARRIVALS;
 use crate::script::Script;
 
 /// The scripts that are one and the same each time; besides them there is one by chance for each seed.
-pub const NAMES: [&str; 15] = [
-    "arrivals", "base", "buckets", "files", "late", "long", "many", "next", "picture", "replay",
-    "search", "sessions", "settings", "short", "unsound",
+pub const NAMES: [&str; 16] = [
+    "arrivals", "base", "buckets", "edition", "files", "late", "long", "many", "next", "picture",
+    "replay", "search", "sessions", "settings", "short", "unsound",
 ];
 
 /// Nothing for another name.
@@ -32,6 +33,7 @@ pub fn of_name(name: &str) -> Option<Script> {
         "arrivals" => arrivals::write,
         "base" => base::write,
         "buckets" => buckets::write,
+        "edition" => edition::write,
         "files" => files::write,
         "late" => late::write,
         "long" => long::write,
@@ -70,6 +72,12 @@ pub fn wanted_headings() -> Vec<(String, u64)> {
         (many::IN_TURN, 2_000),
         (many::OTHER_KIND, 1_000),
         (many::ONE_REFUSED, 2_000),
+        (edition::FLAT, 10_000),
+        (edition::FLAT_LATE, 10_000),
+        (edition::LAID, 4_000),
+        (edition::MANY, 1_500),
+        (edition::MOVED, 4_000),
+        (edition::REPLAYED, 1_000),
     ] {
         wanted.push((heading.to_string(), calls));
     }

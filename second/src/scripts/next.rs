@@ -7,17 +7,17 @@ use crate::script::Script;
 use crate::shapes::{self, Shape, SHAPES};
 
 pub fn write(script: &mut Script) {
-    script.worked(true);
+    script.in_each_edition(|script| script.worked(true));
     script.short_traces();
     script.long_traces();
     script.near_the_end();
 }
 
 impl Script {
-    /// H2 to H7, shown after each reading where that is asked for, and lookups about every tick.
+    /// H2 to H7 and traces in which the editions differ, shown after each reading where that is asked for, and lookups about every tick.
     pub(super) fn worked(&mut self, shown: bool) {
         self.heading("# worked by hand, in order");
-        let traces: [(u64, &[i32]); 7] = [
+        let traces: [(u64, &[i32]); 9] = [
             (1, &[1, 4, 2, 9]),
             (1, &[0, 1, 2]),
             (1, &[5, 5, 5]),
@@ -25,6 +25,8 @@ impl Script {
             (1, &[-3, 0, 9]),
             (1, &[i32::MIN, i32::MAX, i32::MIN]),
             (1, &[i32::MIN, i32::MAX, i32::MAX, i32::MIN, 0, -1]),
+            (1, &[5, 5, 5, 5]),
+            (2, &[5, 5, 5, 5, 5, 5, 9, 9, 9]),
         ];
         for (steps, values) in traces {
             self.open_fitting(Kind::InOrder, Size::Steps(steps), 0);

@@ -321,9 +321,12 @@ impl Script {
                     Name::Used,
                     Name::Runs,
                     Name::Readings,
+                    Name::Edition,
                 ] {
                     let field = fields[name as usize];
-                    self.state(name, field + 1);
+                    // One more would be the other edition.
+                    let more = if name == Name::Edition { 2 } else { 1 };
+                    self.state(name, field + more);
                     self.unsound(caption);
                     self.state(name, field);
                 }

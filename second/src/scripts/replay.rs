@@ -90,7 +90,8 @@ struct Walk {
 impl Walk {
     /// With its first record.
     fn new(size: Size, gaps: u64, first: u16, value: i32) -> Walk {
-        let trace = Trace::open(Kind::Late, size, gaps).expect("settings in bounds");
+        // What is accepted is the same in every edition.
+        let trace = Trace::open(1, Kind::Late, size, gaps).expect("settings in bounds");
         let mut walk = Walk {
             trace,
             first,

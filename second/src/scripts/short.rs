@@ -1,4 +1,4 @@
-//! The short script that is stored, of a few hundred commands: each word that the proved program crates/calls obeys, and no other.
+//! The short script that is stored, of some seven hundred commands: each word that the proved program crates/calls obeys, and no other.
 
 use crate::calls::Size::{self, Base, Steps};
 use crate::command::{Name, Word};
@@ -9,8 +9,10 @@ use crate::script::Script;
 
 pub fn write(script: &mut Script) {
     script.random = Random::new(11);
-    script.worked(false);
-    script.worked_late(false);
+    script.in_edition(1, |script| {
+        script.worked(false);
+        script.worked_late(false);
+    });
     script.heading("# settings");
     for (kind, size, gaps, by) in [
         (0, 0, 0, 0),
@@ -33,6 +35,8 @@ pub fn write(script: &mut Script) {
         script.room(40);
         script.named(Word::Open, kind, size, gaps, by);
     }
+    script.heading("# editions");
+    script.short_editions();
     script.heading("# odd tables");
     script.short_odd();
     script.many_by_hand(false);
@@ -43,15 +47,46 @@ pub fn write(script: &mut Script) {
 }
 
 impl Script {
+    /// Opened and loaded by numbers that are no edition, before anything else is looked at and after; a flat trace that is loaded in the other edition
+    /// and goes on; and the edition at hand where none is named.
+    fn short_editions(&mut self) {
+        for kind in [Kind::InOrder, Kind::Late] {
+            self.in_edition(2, |script| script.open(kind, Base(2), 1, 20));
+            for tick in 0..5 {
+                self.read_in(kind, tick, 5);
+            }
+            let bytes = 16 * self.session.state.used;
+            self.save(bytes);
+            self.give(Word::Take, &[(Name::Bytes, bytes)]);
+            for edition in [0, 3, 258, (1 << 32) + 1, 1 << 63, u64::MAX] {
+                self.in_edition(edition, |script| {
+                    script.load_as(kind as u64, Base(2), 1);
+                    script.open_as(kind as u64, Base(2), 1);
+                    script.open_as(kind as u64, Base(0), 0);
+                });
+            }
+            for edition in [1, 2] {
+                self.in_edition(edition, |script| {
+                    script.load_as(kind as u64, Base(2), 1);
+                });
+                for tick in 5..8 {
+                    self.read_in(kind, tick, 5);
+                }
+            }
+            let unnamed = [(Name::Kind, kind as u64), (Name::Size, 1), (Name::Gaps, 1)];
+            self.give(Word::Open, &unnamed);
+            self.state(Name::Edition, 3);
+            self.give(Word::Open, &unnamed);
+            self.read_in(kind, 0, 5);
+        }
+    }
+
     /// Filled, merged, saved, and loaded by the same C, one less and one more.
     fn short_odd(&mut self) {
         for kind in [Kind::InOrder, Kind::Late] {
             self.open(kind, Base(3), 2, 28);
             for (tick, value) in [(0, 7), (1, 0), (2, -7), (3, 0), (4, 3), (5, 9)] {
-                match kind {
-                    Kind::InOrder => self.next(value),
-                    Kind::Late => self.late(tick, value),
-                }
+                self.read_in(kind, tick, value);
             }
             let used = self.session.state.used;
             self.save(16 * used);
@@ -118,9 +153,12 @@ impl Script {
                 Name::Used,
                 Name::Runs,
                 Name::Readings,
+                Name::Edition,
             ] {
                 let fields = self.session.fields();
-                self.state(name, fields[name as usize] + 1);
+                // One more would be the other edition.
+                let more = if name == Name::Edition { 2 } else { 1 };
+                self.state(name, fields[name as usize] + more);
                 self.short_calls();
                 self.state(name, fields[name as usize]);
             }

@@ -3,7 +3,7 @@
 use crate::calls::{self, Size, MOST_BASE, MOST_GAPS, SLOT};
 use crate::clauses::{self, CLAUSES};
 use crate::command::{Name, Word};
-use crate::made;
+use crate::made::{self, NO_EDITIONS};
 use crate::picture::MOST_BYTES;
 use crate::rule::{self, Kind, TICKS};
 use crate::script::Script;
@@ -97,6 +97,10 @@ impl Script {
                 let index = from + script.random.below(numbers as u64) as usize;
                 let number = script.random.choice(&[1, -1, 1 << 32, i64::MIN, i64::MAX]);
                 script.set(index, number);
+            }
+            10 => {
+                let edition = script.random.choice(&NO_EDITIONS);
+                script.state(Name::Edition, edition);
             }
             _ => {}
         }

@@ -1,4 +1,5 @@
-//! The promise on error: no curve of at most (C + 1) / 2 flat steps, rounded down, comes closer than the picture does.
+//! The promise on error: no curve of at most (C + 1) / 2 flat steps, rounded down, comes closer than the picture does, in either edition, and where the
+//! edition changes between readings.
 
 use crate::support::{random_value, Trace};
 use second::arrivals::{self, PERTURBATION};
@@ -6,15 +7,17 @@ use second::calls::{
     self, Refusal, Size::Base, State, MOST_BASE, MOST_GAPS, RUNS, SLOT, TAKEN, UNSOUND,
 };
 use second::random::Random;
-use second::rule::{self, worst_error, Bucket, Kind};
+use second::rule::{self, worst_error, Bucket, Edition, Kind, EDITIONS};
 use std::collections::BTreeMap;
 
 /// Of each base limit as many; half of them are odd.
 const TABLES_OF_A_KIND: u64 = 34_000;
 const BASES: u64 = 8;
 const READINGS: u64 = 24;
-/// Tables of odd C in which something was merged, of each kind.
+/// Tables of odd C in which something was merged, of each kind and in each edition.
 const ODD_AND_MERGED: u64 = 10_000;
+/// Tables that differ between the editions at their end, of each kind.
+const DIFFER: u64 = 3_000;
 
 fn promised(base: u64) -> u64 {
     base.div_ceil(2)
@@ -55,49 +58,95 @@ fn is_beaten(values: &[i64], steps: u64, worst: i64) -> bool {
     worst > 0 && needed <= steps
 }
 
+/// One trace in each edition, and one that changes between them, all fed the same readings.
+struct Traces([Trace; 3]);
+
+impl Traces {
+    fn open(kind: Kind, base: u64, gaps: u64) -> Traces {
+        Traces([1, 2, 1].map(|edition| Trace::open_in(edition, kind, Base(base), gaps)))
+    }
+
+    /// Now and then they are saved and loaded before they are looked at.
+    fn accepted(&mut self, accepted: &BTreeMap<u32, i64>, random: &mut Random) {
+        if random.below(10) == 0 {
+            self.0 = std::array::from_fn(|which| self.0[which].reloaded());
+        }
+        if random.below(4) == 0 {
+            let [_, _, changing] = &mut self.0;
+            *changing = changing.reloaded_in(3 - changing.state.edition);
+        }
+        for trace in &self.0 {
+            check(trace, accepted);
+        }
+    }
+
+    fn merged(&self) -> bool {
+        let merges = |trace: &Trace| trace.tally.merges;
+        let [first, second, changing] = &self.0;
+        assert_eq!(merges(first), merges(second));
+        assert_eq!(merges(first), merges(changing));
+        merges(first) > 0
+    }
+
+    fn differ(&self) -> bool {
+        self.0[0].buckets() != self.0[1].buckets()
+    }
+}
+
+/// Of few levels in every second eight tables, so that spreads are equal.
+fn any_value(number: u64, random: &mut Random) -> i32 {
+    match number / BASES % 2 {
+        0 => random_value(random),
+        _ => random.between(-2, 2) as i32,
+    }
+}
+
 #[test]
 fn in_order() {
     let mut random = Random::new(41);
-    let mut odd = 0;
-    // Those that one step more would beat, of even C and of odd.
-    let mut beaten = [0; 2];
+    let [mut odd, mut differ] = [0; 2];
+    // Those that one step more would beat, by edition, of even C and of odd.
+    let mut beaten = [[0; 2]; 2];
     for number in 0..TABLES_OF_A_KIND {
         let base = 1 + number % BASES;
-        let mut trace = Trace::open(Kind::InOrder, Base(base), 0);
+        let mut traces = Traces::open(Kind::InOrder, base, 0);
         let mut accepted = BTreeMap::new();
         for tick in 0..random.below(READINGS) as u32 {
-            let value = random_value(&mut random);
-            trace.next(value).unwrap();
+            let value = any_value(number, &mut random);
             accepted.insert(tick, i64::from(value));
-            if random.below(10) == 0 {
-                trace = trace.reloaded();
+            for trace in &mut traces.0 {
+                trace.next(value).unwrap();
             }
-            check(&trace, &accepted);
+            traces.accepted(&accepted, &mut random);
         }
-        odd += u64::from(base % 2 == 1 && trace.tally.merges > 0);
+        odd += u64::from(base % 2 == 1 && traces.merged());
+        differ += u64::from(traces.differ());
         let values: Vec<i64> = accepted.values().copied().collect();
-        let worst = worst_error(&trace.buckets());
-        beaten[base as usize % 2] += u64::from(is_beaten(&values, promised(base) + 1, worst));
+        for (trace, beaten) in traces.0.iter().zip(&mut beaten) {
+            let worst = worst_error(&trace.buckets());
+            beaten[base as usize % 2] += u64::from(is_beaten(&values, promised(base) + 1, worst));
+        }
     }
     assert!(odd >= ODD_AND_MERGED, "{odd}");
+    assert!(differ >= DIFFER, "{differ}");
     // Seldom of even C, where a step more would need one bucket more; of odd C it would need two.
-    assert!(beaten[0] >= 5 && beaten[1] >= 1_000, "{beaten:?}");
+    for [even, odd] in beaten {
+        assert!(even >= 5 && odd >= 1_000, "{beaten:?}");
+    }
 }
 
 #[test]
 fn late() {
     let mut random = Random::new(42);
-    let mut odd = 0;
+    let [mut odd, mut differ] = [0; 2];
     for number in 0..TABLES_OF_A_KIND {
         let base = 1 + number % BASES;
         let gaps = random.between(1, 5) as u64;
-        let mut trace = Trace::open(Kind::Late, Base(base), gaps);
+        let mut traces = Traces::open(Kind::Late, base, gaps);
         let mut accepted = BTreeMap::new();
         let ticks = random.between(base as i64, 30) as u64;
         for _ in 0..random.between(1, 3 * READINGS as i64) {
-            let (tick, value) = (random.below(ticks) as u32, random_value(&mut random));
-            let before = trace.clone();
-            let answer = trace.late(tick, value);
+            let (tick, value) = (random.below(ticks) as u32, any_value(number, &mut random));
             let mut with = accepted.clone();
             let expected = if with.insert(tick, i64::from(value)).is_some() {
                 Err(Refusal::of(TAKEN))
@@ -107,19 +156,22 @@ fn late() {
                 accepted = with;
                 Ok(())
             };
-            assert_eq!(answer, expected);
-            if answer.is_err() {
-                assert_eq!((trace.state, &trace.room), (before.state, &before.room));
-                continue;
+            for trace in &mut traces.0 {
+                let before = trace.clone();
+                assert_eq!(trace.late(tick, value), expected);
+                if expected.is_err() {
+                    assert_eq!((trace.state, &trace.room), (before.state, &before.room));
+                }
             }
-            if random.below(10) == 0 {
-                trace = trace.reloaded();
+            if expected.is_ok() {
+                traces.accepted(&accepted, &mut random);
             }
-            check(&trace, &accepted);
         }
-        odd += u64::from(base % 2 == 1 && trace.tally.merges > 0);
+        odd += u64::from(base % 2 == 1 && traces.merged());
+        differ += u64::from(traces.differ());
     }
     assert!(odd >= ODD_AND_MERGED, "{odd}");
+    assert!(differ >= DIFFER, "{differ}");
 }
 
 #[test]
@@ -128,18 +180,21 @@ fn of_every_base_limit() {
     for base in 1..=MOST_BASE {
         let readings = base as usize + random.between(1, 60) as usize;
         let values: Vec<i32> = (0..readings).map(|_| random_value(&mut random)).collect();
-        let in_order = Trace::in_order(Base(base), &values);
         let delays = PERTURBATION.delays(readings, &mut random);
-        let mut late = Trace::open(Kind::Late, Base(base), MOST_GAPS);
-        for tick in arrivals::order(&delays) {
-            late.late(tick, values[tick as usize]).unwrap();
-        }
-        let values: Vec<i64> = values.into_iter().map(i64::from).collect();
-        for trace in [in_order, late] {
-            assert_eq!(trace.state.base, base);
-            is_full(&trace);
-            let worst = worst_error(&trace.buckets());
-            assert!(!is_beaten(&values, promised(base), worst), "{base}");
+        let order = arrivals::order(&delays);
+        let wide: Vec<i64> = values.iter().copied().map(i64::from).collect();
+        for edition in [1, 2] {
+            let in_order = Trace::in_order_in(edition, Base(base), &values);
+            let mut late = Trace::open_in(edition, Kind::Late, Base(base), MOST_GAPS);
+            for &tick in &order {
+                late.late(tick, values[tick as usize]).unwrap();
+            }
+            for trace in [in_order, late] {
+                assert_eq!((trace.state.base, trace.state.edition), (base, edition));
+                is_full(&trace);
+                let worst = worst_error(&trace.buckets());
+                assert!(!is_beaten(&wide, promised(base), worst), "{base}");
+            }
         }
     }
 }
@@ -178,6 +233,7 @@ fn in_order_one_step_more_is_not_promised() {
 
 /// The table of these readings by the rule, with another limit.
 fn table_of(
+    edition: Edition,
     readings: &BTreeMap<u32, i64>,
     order: &[u32],
     limit: impl Fn(u64) -> u64,
@@ -186,7 +242,7 @@ fn table_of(
     for tick in order {
         rule::insertion(&mut table, u64::from(*tick), readings[tick]);
         while table.len() as u64 > limit(rule::runs(&table)) {
-            let Some(first) = rule::cheapest_neighbours(&table) else {
+            let Some(first) = rule::cheapest_neighbours(edition, &table) else {
                 break;
             };
             rule::merge(&mut table, first);
@@ -198,7 +254,7 @@ fn table_of(
 #[test]
 fn late_a_limit_without_the_runs_breaks_the_promise() {
     let mut random = Random::new(44);
-    // Tables with a worse error than the best curve, of even C and of odd.
+    // Tables with a worse error than the best curve, of even C and of odd, in both editions.
     let mut broken = [0; 2];
     for number in 0..TABLES_OF_A_KIND {
         let base = 1 + number % BASES;
@@ -207,7 +263,9 @@ fn late_a_limit_without_the_runs_breaks_the_promise() {
         let mut reading = |&tick: &u32| (tick, i64::from(random_value(&mut random)));
         let readings: BTreeMap<u32, i64> = ticks.iter().map(&mut reading).collect();
         let values: Vec<i64> = readings.values().copied().collect();
-        let worst = |limit: &dyn Fn(u64) -> u64| worst_error(&table_of(&readings, &ticks, limit));
+        let edition = EDITIONS[number as usize / BASES as usize % 2];
+        let worst =
+            |limit: &dyn Fn(u64) -> u64| worst_error(&table_of(edition, &readings, &ticks, limit));
         let right = worst(&|runs| base + runs);
         assert!(!is_beaten(&values, promised(base), right));
         let wrong = worst(&|_| base);

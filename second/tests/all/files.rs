@@ -21,7 +21,10 @@ struct Load<'a> {
 impl<'a> Load<'a> {
     fn of(tried: &Try<'a>) -> Load<'a> {
         let mut room = vec![OLD; tried.lent];
-        let answer = calls::load(tried.kind, tried.size, tried.gaps, tried.file, &mut room);
+        // Which edition is no matter of files.
+        let edition = 1 + tried.place as u64 % 2;
+        let (kind, size, gaps) = (tried.kind, tried.size, tried.gaps);
+        let answer = calls::load(edition, kind, size, gaps, tried.file, &mut room);
         Load {
             place: tried.place,
             setting: tried.setting,

@@ -43,7 +43,7 @@ fn words_and_names_have_at_most_eight_letters() {
 }
 
 /// H2's trace, as the commands before what a test tries.
-const H2: &str = "room numbers=12\nopen kind=0 size=1 gaps=0\nnext value=1\nnext value=4\nnext value=2\nnext value=9\n";
+const H2: &str = "room numbers=12\nopen kind=0 size=1 gaps=0 edition=1\nnext value=1\nnext value=4\nnext value=2\nnext value=9\n";
 const H2_ROOM: [i64; 12] = [0, 3, 1, 4, 3, 1, 9, 9, 0, 0, 0, 0];
 
 /// The lines that these commands write after H2's.
@@ -78,10 +78,10 @@ fn readings_and_lookups_are_told_whole() {
             "worst"
         ]),
         [
-            "show 0 2 0 2 1 4 0 3 1 4 3 1 9 9 0 0 0 0".to_string(),
+            "show 0 2 0 2 1 4 1 0 3 1 4 3 1 9 9 0 0 0 0".to_string(),
             format!("lookup 0 0 2 2 1 4 room {room}"),
             format!("lookup 12 0 0 0 0 0 room {room}"),
-            format!("late 5 0 0 2 0 2 1 4 room {room}"),
+            format!("late 5 0 0 2 0 2 1 4 1 room {room}"),
             format!("worst 0 0 2 room {room}"),
         ]
     );
@@ -226,6 +226,7 @@ fn files_are_loaded_and_changed() {
         "take bytes=32",
         "load size=2",
         "load",
+        "load edition=4294967297",
         "file bytes=31",
         "load size=1",
         "file bytes=32",
@@ -241,6 +242,7 @@ fn files_are_loaded_and_changed() {
         "byte at=655360 value=1",
         "record at=40960 start=1",
         "record at=1 start=3 count=1 least=9 largest=9",
+        "load size=1 edition=2",
         "load size=1",
     ]);
     let starts: Vec<&str> = told
@@ -251,20 +253,22 @@ fn files_are_loaded_and_changed() {
         starts,
         [
             "save 0 0 2",
-            "load 3 0 0 0 0 0 0 0",
-            "load 1 0 0 0 0 0 0 0",
-            "load 7 0 0 0 0 0 0 0",
-            "load 0 0 0 2 0 2 1 4",
-            "load 8 1 0 0 0 0 0 0",
-            "load 8 1 0 0 0 0 0 0",
-            "load 0 0 0 2 0 2 1 4",
+            "load 3 0 0 0 0 0 0 0 0",
+            "load 1 0 0 0 0 0 0 0 0",
+            "load 16 0 0 0 0 0 0 0 0",
+            "load 7 0 0 0 0 0 0 0 0",
+            "load 0 0 0 2 0 2 1 4 1",
+            "load 8 1 0 0 0 0 0 0 0",
+            "load 8 1 0 0 0 0 0 0 0",
+            "load 0 0 0 2 0 2 1 4 2",
+            "load 0 0 0 2 0 2 1 4 2",
         ]
     );
     let bytes: Vec<i64> = [0, 3, 1, 4, 3, 1, 9, 9]
         .iter()
         .flat_map(|&number| [number, 0, 0, 0])
         .collect();
-    assert!(told[7].ends_with(&format!(" file {}", checksum(&bytes))));
+    assert!(told[8].ends_with(&format!(" file {}", checksum(&bytes))));
 }
 
 #[test]
@@ -274,7 +278,7 @@ fn recordings_are_replayed_and_told_whole() {
 file bytes=12
 frame counter=65535 value=-2
 frame at=1 counter=196608 value=4294967299
-replay size=2 gaps=2 by=7
+replay size=2 gaps=2 by=7 edition=2
 show
 file bytes=11
 replay size=2 by=1
@@ -284,6 +288,7 @@ replay size=2 by=1
 replay size=2
 replay gaps=257
 replay gaps=257 size=1
+replay gaps=257 size=1 edition=0
 show
 ",
     );
@@ -299,15 +304,15 @@ show
     let changed = [255, 255, 0, 0, 0, 128, 0, 0, 3, 0, 0, 0];
     let refused = |number, room: &str, bytes: &[i64]| {
         let file = checksum(bytes);
-        format!("replay {number} 0 0 0 0 0 0 0 0 0 room {room} file {file}")
+        format!("replay {number} 0 0 0 0 0 0 0 0 0 0 room {room} file {file}")
     };
     let accepted = |room: &str, bytes: &[i64]| {
         let file = checksum(bytes);
-        format!("replay 0 0 1 2 2 2 1 2 2 0 room {room} file {file}")
+        format!("replay 0 0 1 2 2 2 1 2 2 2 0 room {room} file {file}")
     };
     let shown = |numbers: [i64; 20]| {
         let numbers = numbers.map(|number| number.to_string());
-        format!("show 1 2 2 2 1 2 {}", numbers.join(" "))
+        format!("show 1 2 2 2 1 2 2 {}", numbers.join(" "))
     };
     assert_eq!(
         lines,
@@ -319,6 +324,7 @@ show
             refused(3, &rooms[1], &changed),
             refused(1, &rooms[1], &changed),
             refused(2, &rooms[1], &changed),
+            refused(16, &rooms[1], &changed),
             shown(after),
         ]
     );
@@ -328,7 +334,7 @@ show
 fn many_readings_are_told_whole() {
     let told = told::lines(
         "room numbers=12
-open size=1
+open size=1 edition=1
 reading value=1
 reading at=1 tick=1 value=4
 reading at=2 tick=4294967297 value=2
@@ -342,7 +348,7 @@ state readings=9
 nextmany from=3
 nextmany from=3 values=1
 room numbers=20
-open kind=7 size=1 gaps=2
+open kind=7 size=1 gaps=2 edition=2
 state kind=7
 latemany ticks=4
 latemany values=4
@@ -366,18 +372,18 @@ latemany from=3 ticks=18446744073709551615 values=1
     assert_eq!(
         lines,
         [
-            format!("nextmany 0 0 0 2 0 0 0 0 0 room {}", zeros(12)),
-            format!("nextmany 0 0 0 2 0 2 1 4 4 room {h2}"),
-            format!("latemany 5 0 0 2 0 2 1 4 0 room {h2}"),
-            format!("nextmany 0 0 0 2 0 2 1 9 0 room {h2}"),
-            format!("nextmany 4 0 0 2 0 2 1 9 0 room {h2}"),
-            format!("latemany 0 0 7 2 2 0 0 0 0 room {}", zeros(20)),
-            format!("latemany 0 0 7 2 2 0 0 0 0 room {}", zeros(20)),
-            format!("nextmany 5 0 7 2 2 0 0 0 0 room {}", zeros(20)),
-            format!("latemany 11 0 1 2 2 2 1 2 2 room {}", late(2)),
-            format!("latemany 11 0 1 2 2 2 1 2 0 room {}", late(2)),
-            format!("latemany 0 0 1 2 2 2 1 2 0 room {}", late(2)),
-            format!("latemany 0 0 1 2 2 3 2 3 1 room {}", late(3)),
+            format!("nextmany 0 0 0 2 0 0 0 0 1 0 room {}", zeros(12)),
+            format!("nextmany 0 0 0 2 0 2 1 4 1 4 room {h2}"),
+            format!("latemany 5 0 0 2 0 2 1 4 1 0 room {h2}"),
+            format!("nextmany 0 0 0 2 0 2 1 9 1 0 room {h2}"),
+            format!("nextmany 4 0 0 2 0 2 1 9 1 0 room {h2}"),
+            format!("latemany 0 0 7 2 2 0 0 0 2 0 room {}", zeros(20)),
+            format!("latemany 0 0 7 2 2 0 0 0 2 0 room {}", zeros(20)),
+            format!("nextmany 5 0 7 2 2 0 0 0 2 0 room {}", zeros(20)),
+            format!("latemany 11 0 1 2 2 2 1 2 2 2 room {}", late(2)),
+            format!("latemany 11 0 1 2 2 2 1 2 2 0 room {}", late(2)),
+            format!("latemany 0 0 1 2 2 2 1 2 2 0 room {}", late(2)),
+            format!("latemany 0 0 1 2 2 3 2 3 2 1 room {}", late(3)),
         ]
     );
 }
@@ -411,7 +417,7 @@ replay size=1 gaps=1
 #[test]
 fn what_is_not_given_is_as_it_is_at_hand() {
     let zeros = checksum(&[0; 16]);
-    let script = "room numbers=16\nopen kind=9 size=1 gaps=1\nstate kind=7\nnext value=5\nstate used=3\nshow\nstate used=0\nlate value=5\n";
+    let script = "room numbers=16\nopen kind=9 size=1 gaps=1\nopen kind=9 size=1 gaps=1 edition=2\nstate kind=7\nnext value=5\nstate used=3\nshow\nstate used=0\nlate value=5\nopen size=1\nstate edition=18446744073709551615\nworst\nopen size=1\n";
     let lines = told::lines(script);
     let lines: Vec<&str> = lines.lines().collect();
     let mut numbers = [0; 16];
@@ -419,33 +425,37 @@ fn what_is_not_given_is_as_it_is_at_hand() {
     assert_eq!(
         lines,
         [
-            format!("open 0 0 1 2 1 0 0 0 room {zeros}"),
-            format!("next 5 0 7 2 1 0 0 0 room {zeros}"),
-            format!("show 7 2 1 3 0 0{}", " 0".repeat(16)),
-            format!("late 0 0 1 2 1 1 1 1 room {}", checksum(&numbers)),
+            format!("open 16 0 0 0 0 0 0 0 0 room {zeros}"),
+            format!("open 0 0 1 2 1 0 0 0 2 room {zeros}"),
+            format!("next 5 0 7 2 1 0 0 0 2 room {zeros}"),
+            format!("show 7 2 1 3 0 0 2{}", " 0".repeat(16)),
+            format!("late 0 0 1 2 1 1 1 1 2 room {}", checksum(&numbers)),
+            format!("open 0 0 1 2 1 0 0 0 2 room {zeros}"),
+            format!("worst 4 0 0 room {zeros}"),
+            format!("open 16 0 0 0 0 0 0 0 0 room {zeros}"),
         ]
     );
 }
 
 #[test]
 fn size_is_b_where_by_is_0_and_else_c() {
-    let script = "room numbers=16\nopen size=1\nopen size=1 by=1\nopen size=3 by=18446744073709551615\nopen by=1\nopen\nopen size=9223372036854775809\nopen size=513 by=1\nopen size=3 by=2\nstate base=9\nshow\n";
+    let script = "room numbers=16\nstate edition=1\nopen size=1\nopen size=1 by=1\nopen size=3 by=18446744073709551615\nopen by=1\nopen\nopen size=9223372036854775809\nopen size=513 by=1\nopen size=3 by=2\nstate base=9\nshow\n";
     let lines = told::lines(script);
     let answers: Vec<&str> = lines
         .lines()
         .map(|line| line.split(" room").next().unwrap())
         .collect();
-    let refused = "open 1 0 0 0 0 0 0 0";
-    let shown = format!("show 0 9 0 0 0 0{}", " 0".repeat(16));
+    let refused = "open 1 0 0 0 0 0 0 0 0";
+    let shown = format!("show 0 9 0 0 0 0 1{}", " 0".repeat(16));
     let expected = [
-        "open 0 0 0 2 0 0 0 0",
-        "open 0 0 0 1 0 0 0 0",
-        "open 0 0 0 3 0 0 0 0",
+        "open 0 0 0 2 0 0 0 0 1",
+        "open 0 0 0 1 0 0 0 0 1",
+        "open 0 0 0 3 0 0 0 0 1",
         refused,
         refused,
         refused,
         refused,
-        "open 0 0 0 3 0 0 0 0",
+        "open 0 0 0 3 0 0 0 0 1",
         &shown,
     ];
     assert_eq!(answers, expected);
@@ -453,7 +463,7 @@ fn size_is_b_where_by_is_0_and_else_c() {
 
 #[test]
 fn told_readings_show_the_tally() {
-    let script = "room numbers=12\nopen size=1\ntally accepted=4294967294 refused=7\nnexttold value=3\nnexttold value=3\nlatetold tick=9\n";
+    let script = "room numbers=12\nopen size=1 edition=1\ntally accepted=4294967294 refused=7\nnexttold value=3\nnexttold value=3\nlatetold tick=9\n";
     let lines = told::lines(script);
     let tallies: Vec<&str> = lines
         .lines()

@@ -1,12 +1,14 @@
 //! The listing program's lines: what it reads, what it refuses, and where.
 
 use crate::support::{random_trace, Trace};
-use second::calls::Size;
+use second::calls::{self, Size};
 use second::classes::classes;
 use second::listing::{list, DEFAULT_STEPS};
+use second::logger::FRAME_BYTES;
 use second::long_lines::{self, READ};
+use second::picture::MOST_CAPTION;
 use second::random::Random;
-use second::rule::{worst_error, Kind};
+use second::rule::{worst_error, Edition, Kind, TICKS};
 
 fn listed(input: &str) -> String {
     String::from_utf8(list(input.as_bytes()).unwrap()).unwrap()
@@ -162,14 +164,84 @@ fn the_sample_shows_its_two_reading_drop() {
     assert!(output.ends_with("total 2400 64 18\n"));
 }
 
+const HEADER: &str = include_str!("../../../include/ndezulangi.h");
+
+/// The names and numbers that lines of the header define, in their order. What a line says behind its number is left out.
+fn defined(lines: &'static str) -> Vec<(&'static str, u64)> {
+    let mut defined = Vec::new();
+    for line in lines.lines() {
+        let mut words = line.split_whitespace();
+        if words.next() != Some("#define") {
+            continue;
+        }
+        let name = words.next().and_then(|name| name.strip_prefix("NDZ_"));
+        let number = words.next().and_then(|number| number.parse().ok());
+        defined.extend(name.zip(number));
+    }
+    defined
+}
+
+/// All refusals of the header and no others; it has none for a line, which no call refuses.
+#[test]
+fn the_refusals_are_the_header_s() {
+    let (_, block) = HEADER.split_once("/* Refusals. */\n").unwrap();
+    let (block, _) = block.split_once("\n\n").unwrap();
+    let expected = [
+        ("STEPS", calls::STEPS),
+        ("GAPS", calls::GAPS),
+        ("ROOM", calls::ROOM),
+        ("UNSOUND", calls::UNSOUND),
+        ("KIND", calls::KIND),
+        ("TICK", calls::TICK),
+        ("LENGTH", calls::LENGTH),
+        ("RECORD", calls::RECORD),
+        ("RUNS", calls::RUNS),
+        ("OVERFULL", calls::OVERFULL),
+        ("TAKEN", calls::TAKEN),
+        ("ABSENT", calls::ABSENT),
+        ("SHORT", calls::SHORT),
+        ("CAPTION", calls::CAPTION),
+        ("EDITION", calls::EDITION),
+    ]
+    .map(|(name, number)| (name, u64::from(number)));
+    assert_eq!(defined(block), expected);
+    assert_eq!(block.lines().count(), expected.len());
+    let numbers: Vec<u64> = expected.iter().map(|&(_, number)| number).collect();
+    let all = 1..=u64::from(calls::LAST_CALL_REFUSAL);
+    let line = u64::from(calls::LINE);
+    assert!(all.filter(|&number| number != line).eq(numbers));
+}
+
+/// Each of them once.
+#[test]
+fn the_editions_and_the_limits_are_the_header_s() {
+    let defined = defined(HEADER);
+    for (name, number) in [
+        ("IN_ORDER", Kind::InOrder as u64),
+        ("LATE", Kind::Late as u64),
+        ("FIRST_EDITION", Edition::First.number()),
+        ("SECOND_EDITION", Edition::Second.number()),
+        ("DEFAULT_STEPS", DEFAULT_STEPS),
+        ("MOST_STEPS", calls::MOST_STEPS),
+        ("MOST_BASE", calls::MOST_BASE),
+        ("MOST_GAPS", calls::MOST_GAPS),
+        ("LAST_TICK", TICKS - 1),
+        ("MOST_BUCKETS", calls::MOST_BASE + calls::MOST_GAPS),
+        ("SLOT", calls::SLOT as u64),
+        ("RECORD_BYTES", calls::RECORD_BYTES as u64),
+        ("FRAME_BYTES", FRAME_BYTES as u64),
+        ("MOST_CAPTION", MOST_CAPTION as u64),
+    ] {
+        let of_name = defined.iter().filter(|(of, _)| *of == name);
+        let numbers: Vec<u64> = of_name.map(|&(_, number)| number).collect();
+        assert_eq!(numbers, [number], "{name}");
+    }
+}
+
 /// The number of the header is the one that the listing goes by where no line names it.
 #[test]
 fn the_default_is_the_header_s() {
-    let header = include_str!("../../../include/ndezulangi.h");
-    let line = header
-        .lines()
-        .find_map(|line| line.strip_prefix("#define NDZ_DEFAULT_STEPS "));
-    assert_eq!(line.unwrap().parse(), Ok(DEFAULT_STEPS));
+    assert!(defined(HEADER).contains(&("DEFAULT_STEPS", 64)));
     for readings in 1..300 {
         let lines: String = (0..readings)
             .map(|tick| format!("{}\n", tick * tick))

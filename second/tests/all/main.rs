@@ -3,6 +3,7 @@
 mod arrivals;
 mod best_curve;
 mod captioned;
+mod editions;
 mod files;
 mod hand;
 mod language;

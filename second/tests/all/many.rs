@@ -5,7 +5,7 @@ use second::calls::Size::{Base, Steps};
 use second::calls::{self, Fed, Refusal, State, KIND, RUNS, SLOT, TAKEN, TICK, UNSOUND};
 use second::command::{Command, Word};
 use second::random::Random;
-use second::rule::{self, Bucket, Kind, TICKS};
+use second::rule::{self, Bucket, Edition, Kind, TICKS};
 use second::scripts;
 use second::session::{Answer, Session};
 
@@ -15,11 +15,12 @@ fn any_cuts_leave_what_single_readings_leave() {
     for _ in 0..200 {
         let base = random.between(1, 40) as u64;
         let values: Vec<i32> = (0..150).map(|_| random_value(&mut random)).collect();
-        let mut single = Trace::open(Kind::InOrder, Base(base), 0);
+        let edition = random.choice(&[1, 2]);
+        let mut single = Trace::open_in(edition, Kind::InOrder, Base(base), 0);
         for &value in &values {
             single.next(value).unwrap();
         }
-        let mut many = Trace::open(Kind::InOrder, Base(base), 0);
+        let mut many = Trace::open_in(edition, Kind::InOrder, Base(base), 0);
         let mut rest = &values[..];
         while !rest.is_empty() {
             let (part, behind) = rest.split_at(random.between(0, rest.len() as i64) as usize);
@@ -84,6 +85,11 @@ struct Given<'a> {
 }
 
 impl Given<'_> {
+    /// Of a sound trace.
+    fn edition(&self) -> Edition {
+        Edition::of_number(self.state.edition).unwrap()
+    }
+
     fn asked(&self) -> usize {
         match self.late {
             true => self.ticks.len().min(self.values.len()),
@@ -110,7 +116,7 @@ impl Given<'_> {
     }
 
     /// A sound trace in order taken by another choice of what becomes one, as long as ticks are left.
-    fn merged(&self, first: fn(&[Bucket]) -> usize) -> (Fed, Vec<i64>) {
+    fn merged(&self, first: impl Fn(&[Bucket]) -> usize) -> (Fed, Vec<i64>) {
         let (mut fed, mut room) = self.first(usize::MAX);
         if self.late || fed.accepted == 0 {
             return (fed, room);
@@ -146,11 +152,11 @@ type Way = fn(&Given) -> (Fed, Vec<i64>);
 const RIGHT: [(&str, Way); 2] = [
     ("as the call does", |given| given.first(usize::MAX)),
     ("by the cheapest neighbours", |given| {
-        given.merged(|table| rule::cheapest_neighbours(table).unwrap())
+        given.merged(|table| rule::cheapest_neighbours(given.edition(), table).unwrap())
     }),
 ];
 
-const WRONG: [(&str, Way); 12] = [
+const WRONG: [(&str, Way); 14] = [
     ("all or nothing", |given| match given.first(usize::MAX) {
         (fed, _) if fed.refusal.is_some() => {
             let (state, accepted) = (given.state, 0);
@@ -221,10 +227,19 @@ const WRONG: [(&str, Way); 12] = [
     }),
     ("of equal merges the last", |given| {
         given.merged(|table| {
-            let spread = |first: &usize| table[*first].union(&table[first + 1]).spread();
+            let key = |first: &usize| {
+                let union = table[*first].union(&table[first + 1]);
+                (union.spread(), given.edition().weight(&union))
+            };
             let firsts = (0..table.len() - 1).rev();
-            firsts.min_by_key(spread).unwrap()
+            firsts.min_by_key(key).unwrap()
         })
+    }),
+    ("always in the first edition", |given| {
+        given.merged(|table| rule::cheapest_neighbours(Edition::First, table).unwrap())
+    }),
+    ("always in the second edition", |given| {
+        given.merged(|table| rule::cheapest_neighbours(Edition::Second, table).unwrap())
     }),
     // Where the last bucket grows by none, another merge may cost as little or less, and comes first.
     (
@@ -234,7 +249,7 @@ const WRONG: [(&str, Way); 12] = [
                 let [last, new] = [2, 1].map(|back| table[table.len() - back]);
                 match last.union(&new).spread() == last.spread() {
                     true => table.len() - 2,
-                    false => rule::cheapest_neighbours(table).unwrap(),
+                    false => rule::cheapest_neighbours(given.edition(), table).unwrap(),
                 }
             })
         },

@@ -53,8 +53,9 @@ fn an_offset_moves_every_level() {
         let size = random_size(&mut random);
         let gaps = random.between(1, 4) as u64;
         let gaps = if kind == Kind::Late { gaps } else { 0 };
-        let mut trace = Trace::open(kind, size, gaps);
-        let mut other = Trace::open(kind, size, gaps);
+        let edition = random.choice(&[1, 2]);
+        let mut trace = Trace::open_in(edition, kind, size, gaps);
+        let mut other = Trace::open_in(edition, kind, size, gaps);
         for _ in 0..random.below(40) {
             let tick = random.below(40) as u32;
             let value = fitting_value(&mut random, offset);

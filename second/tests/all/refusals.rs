@@ -6,30 +6,53 @@ use crate::support::{
 };
 use second::calls::Size::{Base, Steps};
 use second::calls::{self, *};
+use second::made::NO_EDITIONS;
 use second::picture;
 use second::random::Random;
 use second::rule::{Bucket, Kind, TICKS};
 
 const FULL: &[(u32, u32, i32, i32)] = &[(0, TICKS as u32, 0, 5)];
 
+/// In the first edition; in the second it is the same but for the edition.
 fn load_answer(kind: Kind, size: Size, gaps: u64, bytes: &[u8]) -> Result<State, Refusal> {
-    let mut room = vec![MARK; 769 * SLOT];
-    let answer = calls::load(kind, size, gaps, bytes, &mut room);
-    if answer.is_err() {
-        assert!(room.iter().all(|&number| number == MARK));
-    }
-    answer
+    let [first, second] = [1, 2].map(|edition| {
+        let mut room = vec![MARK; 769 * SLOT];
+        let answer = calls::load(edition, kind, size, gaps, bytes, &mut room);
+        if answer.is_err() {
+            assert!(room.iter().all(|&number| number == MARK));
+        }
+        answer
+    });
+    let moved = first.map(|state| State {
+        edition: 2,
+        ..state
+    });
+    assert_eq!(second, moved);
+    first
 }
 
 #[test]
-fn open_refuses_1_2_3_in_order() {
-    let number = |kind, size, gaps, numbers| {
+fn open_refuses_16_1_2_3_in_order() {
+    let number_in = |edition, kind, size, gaps, numbers| {
         let mut room = vec![MARK; numbers];
-        let answer = calls::open(kind, size, gaps, &mut room);
+        let answer = calls::open(edition, kind, size, gaps, &mut room);
         if answer.is_err() {
             assert!(room.iter().all(|&number| number == MARK));
         }
         answer.err().map(|refusal| refusal.number)
+    };
+    for edition in NO_EDITIONS {
+        for kind in [Kind::InOrder, Kind::Late] {
+            assert_eq!(number_in(edition, kind, Base(0), 0, 0), Some(EDITION));
+            assert_eq!(number_in(edition, kind, Base(1), 0, 0), Some(EDITION));
+            assert_eq!(number_in(edition, kind, Base(1), 1, 0), Some(EDITION));
+            assert_eq!(number_in(edition, kind, Base(1), 1, 99), Some(EDITION));
+        }
+    }
+    let number = |kind, size, gaps, numbers| {
+        let [first, second] = [1, 2].map(|edition| number_in(edition, kind, size, gaps, numbers));
+        assert_eq!(first, second);
+        first
     };
     let wide = [1 << 32, (1 << 63) + 1, (1 << 63) + 32, u64::MAX];
     let steps = [0, 257, (1 << 31) + 1].into_iter().chain(wide).map(Steps);
@@ -59,7 +82,7 @@ fn open_refuses_1_2_3_in_order() {
 }
 
 #[test]
-fn load_refuses_1_2_3_7_8_9_10_in_order() {
+fn load_refuses_16_1_2_3_7_8_9_10_in_order() {
     let odd = [0; 15];
     let mut short = [MARK; 4];
     let late = Kind::Late;
@@ -69,8 +92,12 @@ fn load_refuses_1_2_3_7_8_9_10_in_order() {
         (Base(1), 0, GAPS),
         (Base(1), 1, ROOM),
     ] {
-        let answer = calls::load(late, size, gaps, &odd, &mut short);
+        let answer = calls::load(2, late, size, gaps, &odd, &mut short);
         assert_eq!(answer, Err(Refusal::of(number)));
+        for edition in NO_EDITIONS {
+            let answer = calls::load(edition, late, size, gaps, &odd, &mut short);
+            assert_eq!(answer, Err(Refusal::of(EDITION)));
+        }
     }
     assert_eq!(
         load_answer(late, Steps(1), 1, &odd),
@@ -299,6 +326,11 @@ fn random_state(random: &mut Random) -> State {
         used: random_size(random),
         runs: random_size(random),
         readings: random_size(random),
+        // Mostly a good one, so that something else is what is wrong.
+        edition: match random.below(8) {
+            0 => random_size(random),
+            _ => random.choice(&[1, 2]),
+        },
     }
 }
 
@@ -322,7 +354,8 @@ fn damage(trace: &mut Trace, random: &mut Random) {
             any
         }
     };
-    match random.below(12) {
+    match random.below(13) {
+        12 => spoil(&mut state.edition),
         0 => spoil(&mut state.base),
         1 => spoil(&mut state.gaps),
         2 => spoil(&mut state.used),
@@ -481,6 +514,7 @@ fn reading_call(
             assert_eq!(expected, None);
             assert!(is_sound(after, &room_after));
             assert_eq!(after.readings, state.readings + 1);
+            assert_eq!(after.edition, state.edition);
             let needed = needed_slots(state.kind, state.base, state.gaps) * SLOT;
             assert_eq!(room_after[needed..], room[needed..]);
             assert_eq!((tally.accepted, tally.refused), (1, 0));
@@ -492,7 +526,11 @@ fn reading_call(
 /// Open and load with the state's settings, its base limit taken as B or as C; the bytes are junk too.
 fn settings_calls(state: State, room: &[i64], random: &mut Random) {
     let State {
-        kind, base, gaps, ..
+        kind,
+        base,
+        gaps,
+        edition,
+        ..
     } = state;
     let size = random.choice(&[Steps(base), Base(base)]);
     let length: usize = random.choice(&[0, 1, 15, 16, 17, 32, 48]);
@@ -500,14 +538,15 @@ fn settings_calls(state: State, room: &[i64], random: &mut Random) {
         .map(|_| random.choice(&[0, 0, 0, 1, 255]))
         .collect();
     let mut opened_room = room.to_vec();
-    let opened = calls::open(kind, size, gaps, &mut opened_room);
+    let opened = calls::open(edition, kind, size, gaps, &mut opened_room);
     let mut loaded_room = room.to_vec();
-    let loaded = calls::load(kind, size, gaps, &bytes, &mut loaded_room);
+    let loaded = calls::load(edition, kind, size, gaps, &bytes, &mut loaded_room);
     for (answer, room_after) in [(opened, &opened_room), (loaded, &loaded_room)] {
         match answer {
             Err(_) => assert_eq!(room_after, room),
             Ok(after) => {
                 assert!(is_sound(after, room_after));
+                assert_eq!(after.edition, edition);
                 let needed = needed_slots(kind, after.base, after.gaps) * SLOT;
                 assert_eq!(room_after[needed..], room[needed..]);
             }

@@ -3,20 +3,25 @@
 use crate::support::{bucket, random_size, random_value, Trace, MARK};
 use second::arrivals::{Arrivals, BURSTY};
 use second::calls::Size::{self, Base, Steps};
-use second::calls::{self, Refusal, Replayed, GAPS, LENGTH, ROOM, SLOT, STEPS};
+use second::calls::{self, Refusal, Replayed, EDITION, GAPS, LENGTH, ROOM, SLOT, STEPS};
 use second::logger::{self, Frame};
+use second::made::NO_EDITIONS;
 use second::random::Random;
 use second::rule::{Bucket, Kind, TICKS};
 
-/// A trace of a recording, with the counts of its records.
+/// A trace of a recording in the first edition, with the counts of its records.
 fn replayed(size: Size, gaps: u64, recording: &[u8]) -> (Trace, u64, u64) {
-    let mut trace = Trace::open(Kind::Late, size, gaps);
+    replayed_in(1, size, gaps, recording)
+}
+
+fn replayed_in(edition: u64, size: Size, gaps: u64, recording: &[u8]) -> (Trace, u64, u64) {
+    let mut trace = Trace::open_in(edition, Kind::Late, size, gaps);
     trace.room.fill(MARK);
     let Replayed {
         state,
         accepted,
         refused,
-    } = calls::replay(size, gaps, recording, &mut trace.room).unwrap();
+    } = calls::replay(edition, size, gaps, recording, &mut trace.room).unwrap();
     trace.state = state;
     (trace, accepted, refused)
 }
@@ -53,7 +58,8 @@ struct Truth {
 impl Truth {
     fn new(size: Size, gaps: u64, first: i64, constant: i64) -> Truth {
         Truth {
-            fed: Trace::open(Kind::Late, size, gaps),
+            // By turns, as the constant is even or odd.
+            fed: Trace::open_in(1 + constant.rem_euclid(2) as u64, Kind::Late, size, gaps),
             first,
             highest: first,
             constant,
@@ -74,7 +80,8 @@ impl Truth {
     }
 
     fn is_replayed(&self, size: Size, gaps: u64) {
-        let (trace, accepted, refused) = replayed(size, gaps, &self.bytes);
+        let edition = self.fed.state.edition;
+        let (trace, accepted, refused) = replayed_in(edition, size, gaps, &self.bytes);
         assert_eq!(trace.state, self.fed.state);
         assert_eq!(trace.room, self.fed.room);
         let tally = self.fed.tally;
@@ -288,7 +295,7 @@ fn recordings_of_0_to_13_bytes() {
     let bytes = [0, 0, 5, 0, 0, 0, 1, 0, 6, 0, 0, 0, 9];
     for length in 0..=13 {
         let mut room = vec![MARK; 6 * SLOT];
-        let answer = calls::replay(Base(2), 2, &bytes[..length], &mut room);
+        let answer = calls::replay(2, Base(2), 2, &bytes[..length], &mut room);
         match length {
             0 | 6 | 12 => {
                 let Replayed {
@@ -300,6 +307,7 @@ fn recordings_of_0_to_13_bytes() {
                 assert_eq!((accepted, refused), (records, 0));
                 assert_eq!((state.used, state.readings), (records, records));
                 assert_eq!((state.kind, state.base, state.gaps), (Kind::Late, 2, 2));
+                assert_eq!(state.edition, 2);
                 let (needed, behind) = room.split_at(5 * SLOT);
                 assert!(needed[length / 6 * SLOT..]
                     .iter()
@@ -315,15 +323,24 @@ fn recordings_of_0_to_13_bytes() {
 }
 
 #[test]
-fn replay_refuses_1_2_3_7_in_order() {
-    let number = |size, gaps, numbers, bytes: usize| {
+fn replay_refuses_16_1_2_3_7_in_order() {
+    let number_in = |edition, size, gaps, numbers, bytes: usize| {
         let mut room = vec![MARK; numbers];
-        let answer = calls::replay(size, gaps, &vec![1; bytes], &mut room);
+        let answer = calls::replay(edition, size, gaps, &vec![1; bytes], &mut room);
         if let Err(refusal) = answer {
             assert_eq!(refusal.place, 0);
             assert!(room.iter().all(|&number| number == MARK));
         }
         answer.err().map(|refusal| refusal.number)
+    };
+    for edition in NO_EDITIONS {
+        assert_eq!(number_in(edition, Steps(0), 0, 0, 5), Some(EDITION));
+        assert_eq!(number_in(edition, Base(1), 1, 3_076, 6), Some(EDITION));
+    }
+    let number = |size, gaps, numbers, bytes| {
+        let [first, second] = [1, 2].map(|edition| number_in(edition, size, gaps, numbers, bytes));
+        assert_eq!(first, second);
+        first
     };
     for size in [
         Steps(0),

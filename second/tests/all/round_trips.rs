@@ -2,7 +2,7 @@
 
 use crate::support::{marked_room, random_size, random_trace, random_value, Trace};
 use second::calls::Size::{self, Base, Steps};
-use second::calls::{self, RECORD_BYTES};
+use second::calls::{self, State, RECORD_BYTES};
 use second::random::Random;
 use second::rule::{Kind, TICKS};
 
@@ -36,7 +36,8 @@ fn bytes_that_load_save_to_the_same_bytes() {
         let gaps = random.between(1, 4) as u64;
         let bytes = random_records(&mut random, kind);
         let mut room = marked_room(Kind::Late, size, gaps);
-        let Ok(state) = calls::load(kind, size, gaps, &bytes, &mut room) else {
+        let edition = random.choice(&[1, 2]);
+        let Ok(state) = calls::load(edition, kind, size, gaps, &bytes, &mut room) else {
             continue;
         };
         loads += 1;
@@ -52,7 +53,13 @@ fn bytes_that_load_save_to_the_same_bytes() {
 fn loaded_by(trace: &Trace, size: Size) -> Result<Trace, calls::Refusal> {
     let state = trace.state;
     let mut room = marked_room(state.kind, Base(state.base + 1), state.gaps);
-    let state = calls::load(state.kind, size, state.gaps, &trace.saved(), &mut room)?;
+    let State {
+        edition,
+        kind,
+        gaps,
+        ..
+    } = trace.state;
+    let state = calls::load(edition, kind, size, gaps, &trace.saved(), &mut room)?;
     let tally = trace.tally;
     Ok(Trace { state, room, tally })
 }
@@ -94,9 +101,10 @@ fn in_order_a_given_k_is_kept_as_0() {
     let trace = Trace::in_order(Steps(2), &[1, 2, 3, 4, 5, 6]);
     for gaps in [0, 5, 300, u64::MAX] {
         let mut room = marked_room(Kind::InOrder, Steps(2), 0);
-        let opened = calls::open(Kind::InOrder, Steps(2), gaps, &mut room).unwrap();
+        let opened = calls::open(1, Kind::InOrder, Steps(2), gaps, &mut room).unwrap();
         assert_eq!(opened.gaps, 0);
-        let loaded = calls::load(Kind::InOrder, Base(4), gaps, &trace.saved(), &mut room).unwrap();
+        let saved = trace.saved();
+        let loaded = calls::load(1, Kind::InOrder, Base(4), gaps, &saved, &mut room).unwrap();
         assert_eq!((loaded, room), (trace.state, trace.room.clone()));
     }
 }

@@ -1,14 +1,15 @@
 //! Scripts try what they are meant to, and are obeyed as they were made.
 
 use crate::sound::is_sound;
-use second::calls::Tally;
+use second::calls::{State, Tally};
 use second::clauses::{self, CLAUSES};
 use second::command::{Command, Word};
 use second::counts::{self, Met, REFUSALS};
 use second::scripts::{self, chance};
 use second::searches::SORTS;
-use second::session::Session;
-use second::{pictures, sizes, told};
+use second::session::{Answer, Session};
+use second::{editions, pictures, sizes, told};
+use std::collections::BTreeSet;
 
 const CALLS: u64 = 20_000;
 
@@ -134,7 +135,7 @@ fn a_fresh_tally_of_an_opened_trace_has_a_merge_for_each_reading_without_a_bucke
 /// The sorts that one search of the late table (0, 3, -1 to 4), (3, 2, 8 to 9), (7, 2, 2 to 9) is counted as.
 fn sorts_of(search: &str) -> Vec<String> {
     let slots = "slot start=0 count=3 least=-1 largest=4\nslot at=1 start=3 count=2 least=8 largest=9\nslot at=2 start=7 count=2 least=2 largest=9";
-    let script = format!("room numbers=20\nopen kind=1 size=1 gaps=2\n{slots}\nstate used=3 runs=2 readings=7\n{search}\n");
+    let script = format!("room numbers=20\nopen kind=1 size=1 gaps=2 edition=1\n{slots}\nstate used=3 runs=2 readings=7\n{search}\n");
     let counts = told::obey(script.as_bytes(), &mut std::io::sink()).unwrap();
     let sort = |name: &String| name.strip_prefix("search: ").map(String::from);
     counts.met().keys().filter_map(sort).collect()
@@ -233,17 +234,19 @@ fn sizes_of(script: &str) -> Met {
 
 #[test]
 fn calls_are_counted_as_what_they_are_of_b_and_c() {
-    let late = "room numbers=16\nopen kind=1 gaps=2 size=1 by=1\nlate tick=0\nlate tick=2\n";
-    let saved = "room numbers=20\nopen size=1\nnext value=4\nsave bytes=16\ntake bytes=16\n";
+    let late =
+        "room numbers=16\nopen kind=1 gaps=2 size=1 by=1 edition=1\nlate tick=0\nlate tick=2\n";
+    let saved =
+        "room numbers=20\nopen size=1 edition=1\nnext value=4\nsave bytes=16\ntake bytes=16\n";
     for (before, call, sorts) in [
         (
             "room numbers=12\n",
-            "open size=1",
+            "open size=1 edition=1",
             &["open by 0", "open of B 1, in order"][..],
         ),
         (
             "room numbers=8\n",
-            "open size=1 by=2",
+            "open size=1 by=2 edition=2",
             &[
                 "open by 2",
                 "open of C 1, in order",
@@ -252,7 +255,7 @@ fn calls_are_counted_as_what_they_are_of_b_and_c() {
         ),
         (
             "room numbers=99\n",
-            "open size=9223372036854775809",
+            "open size=9223372036854775809 edition=1",
             &[
                 "open of B good in its lowest 32 bits",
                 "open of B that doubles to a good C in 64 bits",
@@ -260,20 +263,20 @@ fn calls_are_counted_as_what_they_are_of_b_and_c() {
         ),
         (
             "",
-            "load size=2147483649",
+            "load size=2147483649 edition=2",
             &["load of B that doubles to a good C in 32 bits"],
         ),
         (
             "",
-            "load size=513 kind=1 gaps=2 by=1",
+            "load size=513 kind=1 gaps=2 by=1 edition=1",
             &["load of C 513, late"],
         ),
         (
             "room numbers=15\n",
-            "open kind=1 gaps=2 size=1 by=1",
+            "open kind=1 gaps=2 size=1 by=1 edition=1",
             &["open a number short, late", "open short for want of K"],
         ),
-        ("", "open kind=1 gaps=2 size=1 by=1", &[]),
+        ("", "open kind=1 gaps=2 size=1 by=1 edition=2", &[]),
         (
             late,
             "late tick=1",
@@ -290,7 +293,7 @@ fn calls_are_counted_as_what_they_are_of_b_and_c() {
         ),
         (
             saved,
-            "load size=2 by=1",
+            "load size=2 by=1 edition=1",
             &[
                 "load by 1",
                 "load of C 2, in order",
@@ -309,7 +312,7 @@ fn calls_are_counted_as_what_they_are_of_b_and_c() {
             ],
         ),
         (
-            "room numbers=2200\nopen size=512 by=1\nstate base=513\n",
+            "room numbers=2200\nopen size=512 by=1 edition=1\nstate base=513\n",
             "worst",
             &["state of base 513"],
         ),
@@ -334,12 +337,282 @@ fn the_script_of_base_limits_meets_every_sort() {
 }
 
 #[test]
+fn the_script_of_editions_meets_every_sort() {
+    let script = scripts::of_name("edition").unwrap();
+    let met = told::obey(script.text.as_bytes(), &mut std::io::sink())
+        .unwrap()
+        .met();
+    // What another script tries more of: other refusals, and tables that are so large or so small.
+    let elsewhere = ["in edition 2 refused", "at C 512", "at C 1,"];
+    let wanted = editions::wanted();
+    let own = |sort: &&String| !elsewhere.iter().any(|of| sort.contains(of));
+    for sort in wanted.keys().filter(own) {
+        let times = met.get(sort).copied().unwrap_or(0);
+        assert!(times >= 50, "{sort}: {times}");
+    }
+    assert!(wanted.keys().filter(own).count() > 150);
+}
+
+/// Of flat pins: about 16 readings, about the times that C goes into 4,096 and about a stretch, from an empty trace on.
+#[test]
+fn the_script_of_editions_feeds_each_length_at_one_call() {
+    let script = scripts::of_name("edition").unwrap();
+    let mut session = Session::new();
+    let mut fed = BTreeSet::new();
+    for line in script.text.lines() {
+        let Some(command) = Command::of_line(line).unwrap() else {
+            continue;
+        };
+        let State { base, used, .. } = session.state;
+        let answer = session.obey(&command);
+        if let (Answer::Fed(all), 0) = (answer, used) {
+            fed.insert((command.word, all.state.edition, base, all.accepted));
+        }
+    }
+    for base in [
+        1_u64, 2, 3, 4, 16, 30, 31, 32, 33, 34, 64, 128, 230, 231, 511, 512,
+    ] {
+        for about in [16, 4_096 / base, (2 * base + 48).min(510)] {
+            // The list has no more.
+            for length in (about - 1..=about + 1).filter(|&length| length <= 4_096) {
+                for word in [Word::NextMany, Word::LateMany] {
+                    for edition in [1, 2] {
+                        let call = (word, edition, base, length);
+                        assert!(fed.contains(&call), "{call:?}");
+                    }
+                }
+            }
+        }
+    }
+}
+
+/// What the script meets of the sorts that the editions are told apart by.
+fn editions_of(script: &str) -> Met {
+    let counts = told::obey(script.as_bytes(), &mut std::io::sink()).unwrap();
+    let mut met = counts.met();
+    met.retain(|name, _| editions::wanted().contains_key(name));
+    met
+}
+
+#[test]
+fn calls_are_counted_as_what_they_are_of_the_editions() {
+    let three = "next value=5\nnext value=5\nnext value=5\n";
+    let opened = |edition| format!("room numbers=12\nopen size=1 edition={edition}\n{three}");
+    let both = format!("{}next value=5\n{}", opened(1), opened(2));
+    let other_readings = both.replacen("=5", "=4", 1);
+    let saved = format!("{}save bytes=32\ntake bytes=32\n", opened(1));
+    let late = "room numbers=16\nopen kind=1 gaps=2 size=1 by=1 edition=2\nlate tick=0\nlate tick=1\nlate tick=2\nlate tick=4\n";
+    let replayed = "room numbers=16\nfile bytes=6\nreplay size=1 gaps=1 edition=1\n";
+    let by_count = [
+        "merged in edition 2 at C 2, in order",
+        "merged in edition 2 otherwise than in the other, in order",
+        "merged in edition 2, in order: by the count",
+        "next in edition 2 otherwise than in the other",
+    ];
+    let paired = [
+        by_count[0],
+        by_count[1],
+        by_count[2],
+        by_count[3],
+        "tables that differ by the edition, in order",
+    ];
+    let told = [
+        by_count[0],
+        by_count[1],
+        by_count[2],
+        "nexttold in edition 2 otherwise than in the other",
+    ];
+    // By C = 64 two merges are needed before the editions can differ.
+    let at_64 = |edition| format!("room numbers=260\nopen size=64 by=1 edition={edition}\n");
+    let cases: [(&str, &str, &[&str]); 26] = [
+        (
+            "room numbers=12\n",
+            "open size=1 edition=2",
+            &["open by edition 2, in order"],
+        ),
+        (
+            "",
+            "open edition=3",
+            &["open by edition 3", "open refused 16 before 1"],
+        ),
+        (
+            "room numbers=12\nset value=5\n",
+            "open size=1 edition=4294967297",
+            &[
+                "open by edition 4294967297",
+                "open refused 16 alone",
+                "open refused 16 over numbers",
+            ],
+        ),
+        (
+            "",
+            "open kind=1 size=1",
+            &[
+                "open by edition 0",
+                "open by no edition, none at hand",
+                "open refused 16 before 2",
+            ],
+        ),
+        (
+            "room numbers=12\nstate edition=1\n",
+            "open size=1",
+            &["open by edition 1, in order", "open by no edition, 1 at hand"],
+        ),
+        (
+            "room numbers=16\nfile bytes=5\n",
+            "replay size=1 gaps=1 edition=258",
+            &["replay by edition 258", "replay refused 16 before 7"],
+        ),
+        (
+            "room numbers=16\nfile bytes=5\n",
+            "replay size=1 gaps=1 edition=2",
+            &["replay in edition 2 refused 7"],
+        ),
+        (&opened(2), "next value=5", &by_count),
+        (&opened(2), "nexttold value=5", &told),
+        (
+            &opened(1),
+            "next value=5",
+            &[
+                "merged in edition 1 at C 2, in order",
+                "merged in edition 1 otherwise than in the other, in order",
+                "merged in edition 1, in order: by the start against the count",
+                "merged in edition 1, in order: by the start among equal spreads",
+                "next in edition 1 otherwise than in the other",
+            ],
+        ),
+        (
+            "room numbers=12\nopen size=1 edition=2\n",
+            "nextmany values=2048",
+            &["nextmany in edition 2 otherwise than in the other"],
+        ),
+        (
+            &at_64(2),
+            "nextmany values=67",
+            &[
+                "nextmany in edition 2 otherwise than in the other",
+                "nextmany in edition 2 otherwise than in the other, of 16 and of 4096 / C or more, C not 2",
+            ],
+        ),
+        (
+            &format!("{}nextmany values=4\n", at_64(2)),
+            "nextmany values=63",
+            &["nextmany in edition 2 otherwise than in the other"],
+        ),
+        (
+            &at_64(1),
+            "nextmany values=67",
+            &["nextmany in edition 1 otherwise than in the other"],
+        ),
+        (&at_64(2), "nextmany values=65", &[]),
+        // Three ticks that are flat before two that are 7 apart.
+        (
+            &opened(2),
+            "next value=12",
+            &[
+                "merged in edition 2 at C 2, in order",
+                "merged in edition 2, in order: by the spread against the count",
+                "merged in edition 2, in order: by the spread alone",
+            ],
+        ),
+        (
+            "room numbers=12\nopen size=1 edition=2\nnext value=5\nnext value=5\n",
+            "next value=5",
+            &[
+                "merged in edition 2 at C 2, in order",
+                "merged in edition 2, in order: by the start among equal counts",
+            ],
+        ),
+        (&both, "next value=5", &paired),
+        (&other_readings, "next value=5", &by_count),
+        (
+            &saved,
+            "load size=1 edition=2",
+            &[
+                "load by edition 2, in order",
+                "loaded in edition 2, saved in the other, in order",
+            ],
+        ),
+        (
+            &saved,
+            "load size=1 edition=2\nnext value=5",
+            &[
+                "gone on in edition 2 otherwise than it was saved in, in order",
+                "load by edition 2, in order",
+                "loaded in edition 2, saved in the other, in order",
+                by_count[0],
+                by_count[1],
+                by_count[2],
+                by_count[3],
+            ],
+        ),
+        (
+            &opened(1),
+            "state edition=3\nworst",
+            &["state of edition 3", "worst refused 4 for the edition alone"],
+        ),
+        (
+            &opened(1),
+            "state edition=3 readings=9\nworst",
+            &["state of edition 3"],
+        ),
+        (
+            late,
+            "late tick=3",
+            &[
+                "late in edition 2 otherwise than in the other",
+                "merged in edition 2 at C 1, late",
+                "merged in edition 2 otherwise than in the other, late",
+                "merged in edition 2, late: by the count",
+                "merged in edition 2, late: by the start among equal counts, behind one of more ticks",
+                "two merges in edition 2",
+                "two merges in edition 2 otherwise than in the other",
+                "two merges in edition 2, the second by the count",
+            ],
+        ),
+        (
+            late,
+            "latetold tick=3",
+            &[
+                "latetold in edition 2 otherwise than in the other",
+                "merged in edition 2 at C 1, late",
+                "merged in edition 2 otherwise than in the other, late",
+                "merged in edition 2, late: by the count",
+                "merged in edition 2, late: by the start among equal counts, behind one of more ticks",
+                "two merges in edition 2",
+                "two merges in edition 2 otherwise than in the other",
+                "two merges in edition 2, the second by the count",
+            ],
+        ),
+        (
+            replayed,
+            "replay size=1 gaps=1 edition=2",
+            &[
+                "replay by edition 2, late",
+                "tables alike in both editions, replayed",
+            ],
+        ),
+    ];
+    for (before, calls, sorts) in cases {
+        let mut met = editions_of(&format!("{before}{calls}\n"));
+        for (name, times) in editions_of(before) {
+            *met.get_mut(&name).unwrap() -= times;
+        }
+        met.retain(|_, times| *times > 0);
+        assert!(met.keys().eq(sorts), "{calls}: {met:?}");
+    }
+}
+
+#[test]
 fn the_script_of_replays_meets_every_sort() {
     let script = scripts::of_name("replay").unwrap();
     let met = told::obey(script.text.as_bytes(), &mut std::io::sink())
         .unwrap()
         .met();
-    let of_replays = |sort: &str| ["replay ", "record"].iter().any(|of| sort.starts_with(of));
+    let of_replays = |sort: &str| {
+        let of_editions = sort.contains("edition") || sort.contains("refused 16");
+        !of_editions && ["replay ", "record"].iter().any(|of| sort.starts_with(of))
+    };
     let wanted = counts::wanted();
     let wanted = wanted.iter().filter(|(sort, _)| of_replays(sort));
     assert!(wanted.clone().count() > 60);
@@ -356,7 +629,7 @@ fn recordings_of(gaps: usize, counters: &[u16]) -> Vec<String> {
     for (at, counter) in counters.iter().enumerate() {
         script += &format!("frame at={at} counter={counter} value=-1\n");
     }
-    script += &format!("replay size=1 gaps={gaps}\n");
+    script += &format!("replay size=1 gaps={gaps} edition=1\n");
     let counts = told::obey(script.as_bytes(), &mut std::io::sink()).unwrap();
     let sort = |name: &String| name.strip_prefix("recording: ").map(String::from);
     counts.met().keys().filter_map(sort).collect()
@@ -452,7 +725,7 @@ fn the_script_of_pictures_meets_every_sort() {
 /// What one picture of the late table (5, 3, -4 to 1), (8, 2, 5 to 5), (11, 3, 0 to 1) is counted as; the file begins with these bytes.
 fn pictures_of(letters: &[u8], calls: &str) -> Vec<String> {
     let slots = "slot start=5 count=3 least=-4 largest=1\nslot at=1 start=8 count=2 least=5 largest=5\nslot at=2 start=11 count=3 least=0 largest=1";
-    let mut script = format!("room numbers=24\nopen kind=1 size=1 gaps=3\n{slots}\nstate used=3 runs=2 readings=8\nblank bytes=65536 value=165\n");
+    let mut script = format!("room numbers=24\nopen kind=1 size=1 gaps=3 edition=2\n{slots}\nstate used=3 runs=2 readings=8\nblank bytes=65536 value=165\n");
     for (at, byte) in letters.iter().enumerate() {
         script += &format!("byte at={at} value={byte}\n");
     }
@@ -546,9 +819,10 @@ fn pictures_are_counted_as_what_they_are() {
         );
     }
     // The same buckets, in order and late.
-    let one = "room numbers=24\nopen kind=0 size=1\nnext\npicture bytes=9999\nopen kind=1 size=1 gaps=1\nlate\npicture bytes=9999";
+    let one = "room numbers=24\nopen kind=0 size=1 edition=1\nnext\npicture bytes=9999\nopen kind=1 size=1 gaps=1 edition=2\nlate\npicture bytes=9999";
     let sorts = pictures_of(b"", one);
     assert!(sorts.contains(&"of the buckets before, of the other kind".to_string()));
+    assert!(sorts.contains(&"of the buckets before, by another edition".to_string()));
     assert!(!sorts.contains(&"of the buckets before, by another C".to_string()));
 }
 

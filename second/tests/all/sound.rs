@@ -12,7 +12,8 @@ pub fn is_sound(state: State, room: &[i64]) -> bool {
     } else {
         state.gaps == 0
     };
-    if !in_bounds || !gaps_in_bounds {
+    let edition_known = [1, 2].contains(&state.edition);
+    if !in_bounds || !gaps_in_bounds || !edition_known {
         return false;
     }
     let needed = wide(state.base) + wide(state.gaps) + 1;

@@ -26,9 +26,14 @@ pub struct Trace {
 }
 
 impl Trace {
+    /// In the first edition, as all that names none.
     pub fn open(kind: Kind, size: Size, gaps: u64) -> Trace {
+        Trace::open_in(1, kind, size, gaps)
+    }
+
+    pub fn open_in(edition: u64, kind: Kind, size: Size, gaps: u64) -> Trace {
         let mut room = marked_room(kind, size, gaps);
-        let state = calls::open(kind, size, gaps, &mut room).unwrap();
+        let state = calls::open(edition, kind, size, gaps, &mut room).unwrap();
         Trace {
             state,
             room,
@@ -37,7 +42,11 @@ impl Trace {
     }
 
     pub fn in_order(size: Size, values: &[i32]) -> Trace {
-        let mut trace = Trace::open(Kind::InOrder, size, 0);
+        Trace::in_order_in(1, size, values)
+    }
+
+    pub fn in_order_in(edition: u64, size: Size, values: &[i32]) -> Trace {
+        let mut trace = Trace::open_in(edition, Kind::InOrder, size, 0);
         for &value in values {
             trace.next(value).unwrap();
         }
@@ -45,7 +54,11 @@ impl Trace {
     }
 
     pub fn late_of(size: Size, gaps: u64, readings: &[(u32, i32)]) -> Trace {
-        let mut trace = Trace::open(Kind::Late, size, gaps);
+        Trace::late_in(1, size, gaps, readings)
+    }
+
+    pub fn late_in(edition: u64, size: Size, gaps: u64, readings: &[(u32, i32)]) -> Trace {
+        let mut trace = Trace::open_in(edition, Kind::Late, size, gaps);
         for &(tick, value) in readings {
             trace.late(tick, value).unwrap();
         }
@@ -108,12 +121,17 @@ impl Trace {
 
     /// The same trace saved and loaded, with the tally carried over.
     pub fn reloaded(&self) -> Trace {
+        self.reloaded_in(self.state.edition)
+    }
+
+    /// The same buckets, which go on in this edition.
+    pub fn reloaded_in(&self, edition: u64) -> Trace {
         let State {
             kind, base, gaps, ..
         } = self.state;
         let size = Base(base);
         let mut room = marked_room(kind, size, gaps);
-        let state = calls::load(kind, size, gaps, &self.saved(), &mut room).unwrap();
+        let state = calls::load(edition, kind, size, gaps, &self.saved(), &mut room).unwrap();
         Trace {
             state,
             room,
@@ -141,7 +159,7 @@ pub fn bytes_of(records: &[(u32, u32, i32, i32)]) -> Vec<u8> {
 
 pub fn loaded(kind: Kind, size: Size, gaps: u64, records: &[(u32, u32, i32, i32)]) -> Trace {
     let mut room = marked_room(kind, size, gaps);
-    let state = calls::load(kind, size, gaps, &bytes_of(records), &mut room).unwrap();
+    let state = calls::load(1, kind, size, gaps, &bytes_of(records), &mut room).unwrap();
     Trace {
         state,
         room,
@@ -177,18 +195,20 @@ pub fn random_size(random: &mut Random) -> Size {
     }
 }
 
-/// A trace of some random readings, of either kind.
+/// A trace of some random readings, of either kind and in either edition.
 pub fn random_trace(random: &mut Random) -> Trace {
     let size = random_size(random);
     let readings = random.below(40);
+    let edition = random.choice(&[1, 2]);
     if random.below(2) == 0 {
-        let mut trace = Trace::open(Kind::InOrder, size, 0);
+        let mut trace = Trace::open_in(edition, Kind::InOrder, size, 0);
         for _ in 0..readings {
             trace.next(random_value(random)).unwrap();
         }
         return trace;
     }
-    let mut trace = Trace::open(Kind::Late, size, random.between(1, 4) as u64);
+    let gaps = random.between(1, 4) as u64;
+    let mut trace = Trace::open_in(edition, Kind::Late, size, gaps);
     for _ in 0..readings {
         let tick = random.below(40) as u32;
         // Those that are taken or would make a run too many are left out.

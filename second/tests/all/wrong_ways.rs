@@ -4,11 +4,11 @@
 
 use crate::support::{bucket, Trace};
 use second::calls::{
-    self, Size::Steps, GAPS, LENGTH, OVERFULL, RECORD_BYTES, ROOM, STEPS, UNSOUND,
+    self, Size::Steps, EDITION, GAPS, LENGTH, OVERFULL, RECORD_BYTES, ROOM, STEPS, UNSOUND,
 };
 use second::clauses;
 use second::command::{Command, Name, Word};
-use second::rule::{self, insertion, limit, neighbours, runs, Bucket, Kind, TICKS};
+use second::rule::{self, insertion, limit, neighbours, runs, Bucket, Edition, Kind, TICKS};
 use second::scripts;
 use second::session::{kind_of, record_of_bytes, size_of, Answer, Session};
 use std::sync::LazyLock;
@@ -550,6 +550,7 @@ type Replayed = Result<(Vec<Bucket>, u64, u64), (u32, bool)>;
 
 /// What a replay is asked for.
 struct Asked {
+    edition: Option<Edition>,
     kind: u64,
     base: Option<u64>,
     gaps: u64,
@@ -567,6 +568,7 @@ static OF_THE_SCRIPT: LazyLock<Vec<(Asked, Replayed)>> = LazyLock::new(|| {
             continue;
         };
         let asked = (command.word == Word::Replay).then(|| Asked {
+            edition: Edition::of_number(session.setting(&command, Name::Edition)),
             kind: session.setting(&command, Name::Kind),
             base: size_of(&command).base(),
             gaps: session.setting(&command, Name::Gaps),
@@ -586,6 +588,7 @@ static OF_THE_SCRIPT: LazyLock<Vec<(Asked, Replayed)>> = LazyLock::new(|| {
 
 impl ReplayWay {
     fn answer(&self, asked: &Asked) -> Replayed {
+        let edition = asked.edition.ok_or((EDITION, true))?;
         let base = asked.base.ok_or((STEPS, true))?;
         if !(1..=256).contains(&asked.gaps) {
             return Err((GAPS, true));
@@ -601,10 +604,16 @@ impl ReplayWay {
         if self.looks_at_kind && asked.kind == 0 {
             return Ok((Vec::new(), 0, 0));
         }
-        Ok(self.replayed(base, asked.gaps, &asked.recording))
+        Ok(self.replayed(edition, base, asked.gaps, &asked.recording))
     }
 
-    fn replayed(&self, base: u64, gaps: u64, recording: &[u8]) -> (Vec<Bucket>, u64, u64) {
+    fn replayed(
+        &self,
+        edition: Edition,
+        base: u64,
+        gaps: u64,
+        recording: &[u8],
+    ) -> (Vec<Bucket>, u64, u64) {
         let mut table: Vec<Bucket> = Vec::new();
         let mut newest: Option<(i64, i64)> = None;
         let (mut accepted, mut refused) = (0, 0);
@@ -619,7 +628,7 @@ impl ReplayWay {
                 && rule::holding_bucket(&table, tick as u64).is_none()
                 && rule::runs_with(&table, tick as u64) <= gaps;
             if good {
-                rule::reading(Kind::Late, base, &mut table, tick as u64, value);
+                rule::reading(edition, Kind::Late, base, &mut table, tick as u64, value);
             }
             if good || self.refused_as_accepted {
                 accepted += 1;
@@ -666,6 +675,7 @@ fn differs_replayed(wrong: ReplayWay, gaps: u64, counters: &[u16]) {
 
 fn differs_on_the_recording(wrong: ReplayWay, gaps: u64, recording: &[u8]) {
     let asked = Asked {
+        edition: Some(Edition::First),
         kind: 0,
         base: Some(4),
         gaps,
@@ -673,7 +683,7 @@ fn differs_on_the_recording(wrong: ReplayWay, gaps: u64, recording: &[u8]) {
         recording: recording.to_vec(),
     };
     let mut room = vec![0; asked.lent];
-    let right = match calls::replay(calls::Size::Base(4), gaps, recording, &mut room) {
+    let right = match calls::replay(1, calls::Size::Base(4), gaps, recording, &mut room) {
         Ok(right) => {
             let record = |slot: &[i64]| bucket(slot[0] as u64, slot[1] as u64, slot[2], slot[3]);
             let table = room[..4 * right.state.used as usize].chunks(4).map(record);

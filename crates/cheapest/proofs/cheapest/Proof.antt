@@ -9,7 +9,7 @@ use Rattle.cheapest.proofs.cheapest.Tie as tie
 returns : tie.Need-returns
 returns c =
     let a = c .before .args in
-    rw (c .scanned .ensures) (place-of (slots (a .room .now) 0 (a .used)) (fitted-slots (a .room .now) 0 (a .used) (c .before .pre .ranges)))
+    rw (c .scanned .ensures) (place-of (a .edition) (slots (a .room .now) 0 (a .used)) (fitted-slots (a .room .now) 0 (a .used) (c .before .pre .ranges)))
 
 pub cheapest-spec : {M : Type 1} → statement M
 cheapest-spec =

@@ -9,7 +9,7 @@ use Rattle.cheapest.proofs.least_cost.Tie as tie
 returns : tie.Need-returns
 returns c =
     let a = c .before .args in
-    rw (c .scanned .ensures) (cost-of (slots (a .room .now) 0 (a .used)) (fitted-slots (a .room .now) 0 (a .used) (c .before .pre .ranges)))
+    rw (c .scanned .ensures) (cost-of 1 (slots (a .room .now) 0 (a .used)) (fitted-slots (a .room .now) 0 (a .used) (c .before .pre .ranges)))
 
 pub least-cost-spec : {M : Type 1} → statement M
 least-cost-spec =

@@ -6,14 +6,14 @@ use borrow.Author.Needs.{needs}
 use types.Run.{OneOf, miss}
 use denote.Enum.Declared.{tagOf}
 use Rattle.rule.specs.declared.Refusal.{Refusal}
-use Rattle.rule.specs.declared.Refusal.the-variants.{Steps, Gaps, Room, Unsound, Kind, Tick, Length, Record, Runs, Overfull, Taken, Absent, Short, Line, Caption}
+use Rattle.rule.specs.declared.Refusal.the-variants.{Steps, Gaps, Room, Unsound, Kind, Tick, Length, Record, Runs, Overfull, Taken, Absent, Short, Line, Caption, Edition}
 use Rattle.rule.specs.Answers.{place}
 use Rattle.rule.proofs.Refusal.{the-type}
 use Rattle.refusal.proofs.place.Statement.{statement}
 use Rattle.refusal.proofs.place.Tie as tie
 
 abbrev others : List ℕ
-others = 0 ∷ 1 ∷ 2 ∷ 3 ∷ 4 ∷ 5 ∷ 6 ∷ 8 ∷ 9 ∷ 10 ∷ 11 ∷ 12 ∷ 13 ∷ 14 ∷ []
+others = 0 ∷ 1 ∷ 2 ∷ 3 ∷ 4 ∷ 5 ∷ 6 ∷ 8 ∷ 9 ∷ 10 ∷ 11 ∷ 12 ∷ 13 ∷ 14 ∷ 15 ∷ []
 
 none : (r : Refusal) → OneOf others (tagOf the-type r) → 0 ≡ place r
 none Steps k = refl
@@ -31,6 +31,7 @@ none Absent k = refl
 none Short k = refl
 none Line k = refl
 none Caption k = refl
+none Edition k = refl
 
 pub place-spec : {M : Type 1} → statement M
 place-spec =

@@ -1,39 +1,34 @@
--- `scan::pass` meets its contract. The loop's invariant: the best so far, and what is left to look at, make the whole.
+-- `scan::pass` meets its contract: in edition 2 as it stands, in any other without ticks, as in edition 1.
 use Prim.Native.Nat.{_+_, _-_}
-use native.Mathlib.Omega.{arith}
-use Rattle.rooms.proofs.Reading.{filled}
-use Rattle.scan.proofs.Scanning.{Passed, passed-end, passed-start, passed-step}
+use mathlib.Core.Path.{_≡_, sym, ap, _∙_}
+use borrow.Author.Needs.{needs}
+use borrow.Author.Tests.{ne-eqb}
+use Rattle.rule.specs.Room.{slots}
+use Rattle.rule.specs.Table.{Choice, cheapest}
+use Rattle.scan.specs.declared.Best.{Best}
+use Rattle.scan.specs.Best.{better}
+use Rattle.scan.proofs.Keeping.{cheapest-first}
 use Rattle.scan.proofs.pass.Statement.{statement}
 use Rattle.scan.proofs.pass.Tie as tie
 
-abbrev Inv-loop : tie.InvT-loop
-Inv-loop room from to shift met i₀ best i = Passed room from to shift met best i
+returns : tie.Need-returns
+returns c = rw (c .before .if1 .taken) (c .over .ensures)
 
-abbrev μ-loop : tie.MeasureT-loop
-μ-loop room from to shift met i₀ best i = to - i
-
-loop-holds : tie.Need-loop-holds Inv-loop μ-loop
-loop-holds c = passed-start _ _ _ _ _ (c .pre .1 .0) (c .pre .1 .1 .1)
-
-loop-again : tie.Need-loop-again Inv-loop μ-loop
-loop-again c =
-    let t = c .before .before .before in
-    rw (c .better .ensures, c .before .read2 .ensures, c .before .before .read .ensures) (passed-step (t .before .loop .inv) (t .loop-test .taken))
+returns-2 : tie.Need-returns-2
+returns-2 c =
+    let start = c .before .before in
+    let a = start .args in
+    let first = ne-eqb (a .edition) 2 (c .before .if1 .left) in
+    let light : record { place = a .met .place; cost = a .met .cost; ticks = 0 } ≡ a .met = λ i. record { place = a .met .place; cost = a .met .cost; ticks = sym (start .pre .1 .1 .1 first) i } in
+    c .over2 .ensures
+    ∙ ap (λ (b : Best). better b (cheapest 1 (a .from + a .shift) (slots (a .room .now) (a .from) (a .to - a .from)))) light
+    ∙ ap (better (a .met)) (sym (cheapest-first (a .edition) first (a .from + a .shift) (slots (a .room .now) (a .from) (a .to - a .from))))
 
 pub pass-spec : {M : Type 1} → statement M
 pass-spec =
     tie.close
     (tie.spec
-    Inv-loop
-    μ-loop
-    loop-holds
-    (λ c. omega arith)  -- add-loop
-    (λ c. omega arith)  -- add-better
-    (λ c κs. filled (c .before .before .pre .0) (c .before .loop .i) (omega arith))  -- read-requires
-    (λ c. omega arith)  -- add-read
-    (λ c κs. filled (c .before .before .before .pre .0) (c .before .before .loop .i + 1) (omega arith))  -- read-requires-2
-    (λ c κs. c .before .before .before .loop .inv .low)  -- better-requires
-    (λ c. omega arith)  -- add-i
-    (λ c. omega arith)  -- loop-less
-    loop-again
-    (λ c. passed-end (c .before .loop .inv) (c .loop-test .left)))  -- returns
+    (λ c κs. search needs)  -- over-requires
+    returns
+    (λ c κs. search needs)  -- over-requires-2
+    returns-2)

@@ -27,7 +27,7 @@ readingsOf (w ∷ ws) = w .1 ∷ readingsOf ws
 abbrev pub inEdition : ℕ → Settings → Settings
 inEdition e s = record { kind = s .kind; base = s .base; gaps = s .gaps; edition = e }
 
--- the table after readings that were each taken by an edition of its own, as where a trace is saved in one and loaded in the other
+-- the table after readings that were each taken by an edition of its own
 unfoldable pub tableBy : Settings → List Taken → Table
 tableBy s [] = []
 tableBy s (w ∷ ws) = accept (inEdition (w .0) s) (tableBy s ws) (w .1 .tick) (w .1 .value)

@@ -1,4 +1,4 @@
-// The cheapest neighbours met in one pass over slots, which asks for slots that are there and hold buckets, as they are in a sound trace.
+// The cheapest neighbours met in one pass over slots, which asks for slots that are there and hold buckets, as they are in a sound trace, and for ticks in edition 2 alone.
 ghost use mathlib.Core.Path.{_≡_};
 ghost use Prim.Native.Nat.{_+_, _-_, _≤_};
 ghost use Rattle.rule.specs.Room.{slots};

@@ -1,4 +1,7 @@
 // The check that open, load and replay begin with: what is named is good, and the room is long enough.
+
+#![tactic(auto)]
+
 ghost use Rattle.std.specs.Prelude.{◌≡◌, []};
 ghost use Rattle.rule.specs.Calls.{accepted, admitted, kept};
 ghost use Rattle.admission.specs.Admission.{admission};
@@ -8,7 +11,7 @@ use rule::{Opening, Refusal, SLOT, Settings};
 use settings::{edition_good, gaps_good, needed};
 
 // The settings to keep and the slots that are needed, or the refusal.
-#[derive(Drop)]
+#[derive(Clone, Copy)]
 pub enum Admitted {
     Granted { settings: Settings, slots: usize },
     Refused(Refusal),

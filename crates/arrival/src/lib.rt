@@ -1,4 +1,7 @@
 // Whether a reading is taken, and where it goes: the refusals of the two readings, in document 01's order. Nothing is written. `next` and `late` ask nothing of a caller; `following` and `placed` go on where soundness is known.
+
+#![tactic(auto)]
+
 ghost use Rattle.std.specs.Prelude.{false, true, ◌≡◌, ℤ};
 ghost use Rattle.rule.specs.Calls.{late};
 ghost use Rattle.rule.specs.Room.{slots, sound};
@@ -13,7 +16,7 @@ use slots::read;
 use sound::sound;
 
 // A reading's refusal, or its place among the buckets, the runs there are with it, and its tick.
-#[derive(Drop)]
+#[derive(Clone, Copy)]
 pub enum Arrival {
     Refused(Refusal),
     Goes { at: usize, runs: usize, tick: u32 },

@@ -1,4 +1,7 @@
 // The arithmetic of one bucket, and of two neighbours.
+
+#![tactic(auto)]
+
 ghost use Rattle.std.specs.Prelude.{◌≡◌, ◌+◌, ◌<◌, ◌^◌};
 ghost use Rattle.rule.specs.Bucket.{end, error, level, neighbours, spread, union};
 

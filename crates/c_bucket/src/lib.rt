@@ -1,4 +1,7 @@
 // The calls for other languages that look at a bucket. Each hands on to the function of its name and does nothing of its own.
+
+#![tactic(auto)]
+
 ghost use Rattle.std.specs.Prelude.{◌≡◌};
 ghost use Rattle.rule.specs.Bucket.{error, level};
 

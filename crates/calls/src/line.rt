@@ -57,7 +57,7 @@ pub(crate) const VALUES: usize = 15;
 pub(crate) const EDITION: usize = 16;
 
 // What is read so far of a line: its word, the name of the number at hand, letters of either, and the number.
-#[derive(Drop)]
+#[derive(Clone, Copy)]
 pub struct Reading {
     pub word: u64,
     pub name: u64,

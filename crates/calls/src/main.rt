@@ -12,7 +12,7 @@ use trace::{Answer, Trace};
 
 // What the script has made besides the lent arrays: the state at hand, how many numbers of the room are lent and how many bytes of the file,
 // and the line so far.
-#[derive(Drop)]
+#[derive(Clone, Copy)]
 pub struct Held {
     pub trace: Trace,
     pub numbers: usize,

@@ -1,4 +1,7 @@
 // A caption printed.
+
+#![tactic(auto)]
+
 ghost use Rattle.std.specs.Prelude.{◌+◌, ◌<◌, ◌^◌, length};
 ghost use Rattle.output.specs.Output.{Put};
 ghost use Rattle.captions.specs.Caption.{escaped, leaving, signs};

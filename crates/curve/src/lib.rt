@@ -1,4 +1,7 @@
 // The broken lines of the runs, printed bucket by bucket.
+
+#![tactic(auto)]
+
 ghost use Rattle.std.specs.Prelude.{◌+◌, ◌-◌, ◌≤◌, ◌<◌, ◌^◌, [], ◌∷◌, ◌++◌, length};
 ghost use Rattle.rule.specs.Room.{slots};
 ghost use Rattle.rooms.specs.Slots.{Filled};

@@ -1,8 +1,11 @@
 // The picture of a trace as one definition, in specs/; here only the types that it speaks of.
+
+#![tactic(auto)]
+
 use rule::Refusal;
 
 // What a picture shows: ticks from the first on, so many, and levels from the highest to the lowest.
-#[derive(Drop)]
+#[derive(Clone, Copy)]
 pub struct View {
     pub first: usize,
     pub span: usize,
@@ -11,7 +14,7 @@ pub struct View {
 }
 
 // How many bytes the picture has.
-#[derive(Drop)]
+#[derive(Clone, Copy)]
 pub enum Drawn {
     Bytes(usize),
     Refused(Refusal),

@@ -1,4 +1,7 @@
 // What a saved file is refused for: the first record that breaks a rule, its runs and readings, and refusals 7 to 10.
+
+#![tactic(auto)]
+
 ghost use Rattle.std.specs.Prelude.{◌≡◌, true, ◌/◌, ◌≤◌, length};
 ghost use Rattle.rule.specs.Numbers.{record_width, ticks};
 ghost use Rattle.rule.specs.Bytes.{records_of};
@@ -17,14 +20,14 @@ use settings::{limit, runs_allowed};
 const NOWHERE: usize = WORD as usize;
 
 // How many runs and readings a file holds.
-#[derive(Drop)]
+#[derive(Clone, Copy)]
 pub struct Contents {
     pub runs: usize,
     pub readings: usize,
 }
 
 // The runs and readings of a file that loads, or the refusal.
-#[derive(Drop)]
+#[derive(Clone, Copy)]
 pub enum Inspected {
     Counts(Contents),
     Refused(Refusal),

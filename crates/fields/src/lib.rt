@@ -7,7 +7,7 @@ use trace::Trace;
 
 // What a trace is opened, loaded or replayed with: its kind is 0 in order and any other number late; its size is B where `by` is 0, and C where it is any other number; K; and the edition.
 #[repr(C)]
-#[derive(Drop)]
+#[derive(Clone, Copy)]
 pub struct Named {
     pub kind: usize,
     pub size: usize,
@@ -18,7 +18,7 @@ pub struct Named {
 
 // A state: its kind is 0 in order and any other number late; C, K, slots in use, runs, readings; and the edition, which stands last.
 #[repr(C)]
-#[derive(Drop)]
+#[derive(Clone, Copy)]
 pub struct Fields {
     pub kind: usize,
     pub base: usize,

@@ -1,4 +1,7 @@
 // The cheapest neighbours of the table in the room with one bucket more, which is not in the room yet. Each function asks for slots that are there and hold buckets, as they are in a sound trace.
+
+#![tactic(auto)]
+
 ghost use Rattle.std.specs.Prelude.{◌≡◌, [], ◌∷◌, ◌++◌, ◌≤◌};
 ghost use Rattle.rule.specs.Room.{numbers, slots};
 ghost use Rattle.rule.specs.Table.{cheapest};

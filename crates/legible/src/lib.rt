@@ -1,4 +1,7 @@
 // A caption looked at.
+
+#![tactic(auto)]
+
 ghost use Rattle.std.specs.Prelude.{◌≡◌};
 ghost use Rattle.captions.specs.Caption.{caption_good, printable};
 

@@ -6,7 +6,7 @@ use trace::Answer;
 pub const EDITION: usize = 1;
 
 // Which lines were read: none, `steps B`, `late K`, a reading.
-#[derive(Drop)]
+#[derive(Clone, Copy)]
 pub enum Stage {
     Nothing,
     Steps,
@@ -15,7 +15,7 @@ pub enum Stage {
 }
 
 // The last answer, which lines were read, how many, and how many bytes of the line begun.
-#[derive(Drop)]
+#[derive(Clone, Copy)]
 pub struct Feeding {
     pub last: Answer,
     pub stage: Stage,

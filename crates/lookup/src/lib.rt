@@ -1,4 +1,7 @@
 // What a lookup answers. Nothing is written, and nothing is asked of a caller.
+
+#![tactic(auto)]
+
 ghost use Rattle.std.proofs.Math.Option.{some};
 ghost use Rattle.std.specs.Prelude.{◌≡◌};
 ghost use Rattle.rule.specs.Calls.{found, lookup_outcome};

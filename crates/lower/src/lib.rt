@@ -1,5 +1,8 @@
 // Two neighbours become their union, and slots behind them move down: as a bucket comes in behind them, and alone. Each number is stored once.
 // Each function asks for slots that are there and hold buckets, as they are in a sound trace.
+
+#![tactic(auto)]
+
 ghost use Rattle.std.specs.Prelude.{◌≡◌, ◌+◌, ◌<◌};
 ghost use Rattle.rule.specs.Numbers.{word};
 ghost use Rattle.rule.specs.Room.{laid, slots};

@@ -1,5 +1,8 @@
 // Two neighbours become their union as another bucket comes into the table, which has as many buckets afterwards as before. Only slots between the two places move.
 // Each function asks for slots that are there and hold buckets, as they are in a sound trace.
+
+#![tactic(auto)]
+
 ghost use Rattle.std.specs.Prelude.{◌≡◌, ◌<◌, suc};
 ghost use Rattle.rule.specs.Room.{laid, slots};
 ghost use Rattle.rule.specs.Table.{merge_at};

@@ -1,5 +1,8 @@
 // Slots moved by one. Nothing else knows how slots are moved: `down` and `up` are lent the part of the room in which slots move, and store each of its numbers once.
 // Each function asks for numbers that are there, `insert` for slots that hold buckets, as they are in a sound trace.
+
+#![tactic(auto)]
+
 ghost use Rattle.std.specs.Prelude.{◌≡◌, ◌++◌, ◌*◌, ◌-◌, ◌≤◌, suc, length, take, drop};
 ghost use Rattle.rule.specs.Numbers.{slot_width};
 ghost use Rattle.rule.specs.Room.{laid, numbers, slots, zeros};

@@ -1,4 +1,7 @@
 // The numbers that bytes stand for, by the definitions of `notation`.
+
+#![tactic(auto)]
+
 ghost use Rattle.std.specs.Prelude.{◌≡◌};
 ghost use Rattle.notation.specs.Reading.{digits, is_digit, number, signed_field, unsigned_field};
 

@@ -1,4 +1,7 @@
 // What a trace is opened, loaded or replayed with, and what the state keeps of it. Only `base_of` and `kept` ask something of their caller: 2B is formed of a good B alone.
+
+#![tactic(auto)]
+
 ghost use Rattle.std.specs.Prelude.{true, ◌≡◌, []};
 ghost use Rattle.rule.specs.declared.Kind.TheVariants.{InOrder, Late};
 ghost use Rattle.rule.specs.Calls.{base_of, gaps_kept, kept, size_good, state_of};

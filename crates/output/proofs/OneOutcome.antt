@@ -5,8 +5,8 @@ use Rattle.rule.proofs.Determined.{both}
 use Rattle.output.specs.contracts.put_byte as put_byte
 use Rattle.output.specs.contracts.put_decimal as put-decimal
 
-pub put_byte_one : OneOutcome put_byte.ended (λ M. put_byte.clauses)
+pub put_byte_one : OneOutcome put_byte.ended (λ M 𝓤. put_byte.clauses)
 put_byte_one M 𝓤 𝓛 mem run κs a g r r' l l' = both 𝓤 (λ p q. (p.next ∙ sym q.next, ap (λ x. (x, l.1)) (p.bytes ∙ sym q.bytes)))
 
-pub put_decimal_one : OneOutcome put-decimal.ended (λ M. put-decimal.clauses)
+pub put_decimal_one : OneOutcome put-decimal.ended (λ M 𝓤. put-decimal.clauses)
 put_decimal_one M 𝓤 𝓛 mem run κs a g r r' l l' = both 𝓤 (λ p q. (p.next ∙ sym q.next, ap (λ x. (x, l.1)) (p.bytes ∙ sym q.bytes)))

@@ -1,4 +1,7 @@
 // Bytes and numbers printed from a place on. What has no place in the output is counted and not stored.
+
+#![tactic(auto)]
+
 ghost use Rattle.std.specs.Prelude.{[], ◌∷◌, ◌+◌, ◌<◌, ◌^◌, length};
 ghost use Rattle.notation.specs.Printing.{decimal};
 ghost use Rattle.output.specs.Output.{Put};

@@ -1,4 +1,7 @@
 // The passes over a room's numbers, any numbers: one over the slots in use, one over what is to be zeros behind them.
+
+#![tactic(auto)]
+
 ghost use Rattle.std.specs.Prelude.{◌≡◌, ◌+◌, ◌*◌, ◌-◌, ◌≤◌, suc, length, take, drop, ◌&&◌, eqb};
 ghost use Rattle.rule.specs.Numbers.{slot_width};
 ghost use Rattle.rule.specs.Rules.{ruled};

@@ -6,7 +6,7 @@ use drawing::Drawn;
 
 // How many bytes were written; 0 where it is refused.
 #[repr(C)]
-#[derive(Drop)]
+#[derive(Clone, Copy)]
 pub struct Pictured {
     pub refusal: u32,
     pub place: usize,

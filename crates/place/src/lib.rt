@@ -1,4 +1,7 @@
 // The place of a tick among the slots in use, and what a reading there touches. Each function asks for slots that are there and hold buckets, as they are in a sound trace.
+
+#![tactic(auto)]
+
 ghost use Rattle.std.specs.Prelude.{◌≡◌, ◌&&◌, ◌+◌, ◌-◌, suc, eqb, ltb, ℤ};
 ghost use Rattle.rule.specs.Bucket.{end};
 ghost use Rattle.rule.specs.Calls.{is_held};

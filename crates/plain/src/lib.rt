@@ -8,7 +8,7 @@ use trace::Answer;
 
 // Refusal 0 where the call was accepted: then the state is the next one, else the one that was given.
 #[repr(C)]
-#[derive(Drop)]
+#[derive(Clone, Copy)]
 pub struct Reply {
     pub refusal: u32,
     pub place: usize,
@@ -17,7 +17,7 @@ pub struct Reply {
 
 // The trace that a replay leaves, and how many records were accepted and refused; zeros where it is refused.
 #[repr(C)]
-#[derive(Drop)]
+#[derive(Clone, Copy)]
 pub struct Recount {
     pub refusal: u32,
     pub place: usize,
@@ -28,7 +28,7 @@ pub struct Recount {
 
 // What a lookup shows; zeros where it is refused.
 #[repr(C)]
-#[derive(Drop)]
+#[derive(Clone, Copy)]
 pub struct Shown {
     pub refusal: u32,
     pub place: usize,
@@ -40,7 +40,7 @@ pub struct Shown {
 
 // Found is 1 where a bucket is over, then its index and its start; zeros where there is none, and where it is refused.
 #[repr(C)]
-#[derive(Drop)]
+#[derive(Clone, Copy)]
 pub struct Hit {
     pub refusal: u32,
     pub place: usize,
@@ -51,7 +51,7 @@ pub struct Hit {
 
 // How many buckets were written; 0 where it is refused.
 #[repr(C)]
-#[derive(Drop)]
+#[derive(Clone, Copy)]
 pub struct Counted {
     pub refusal: u32,
     pub place: usize,
@@ -60,7 +60,7 @@ pub struct Counted {
 
 // The worst error of a trace; 0 where it is refused.
 #[repr(C)]
-#[derive(Drop)]
+#[derive(Clone, Copy)]
 pub struct WorstError {
     pub refusal: u32,
     pub place: usize,

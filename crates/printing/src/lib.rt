@@ -1,4 +1,7 @@
 // The lines of the listing as bytes, printed from a place on, by the definitions of `notation`.
+
+#![tactic(auto)]
+
 ghost use Rattle.std.specs.Prelude.{[], ◌++◌, ◌+◌, ◌≤◌, ◌<◌, ◌^◌, length};
 ghost use Rattle.notation.specs.Printing.{Printed, decimal, line_room, refused, row, total};
 ghost use Rattle.output.specs.Output.{Put, filled};

@@ -1,5 +1,8 @@
 // Two neighbours become their union, and slots before them move up, as a bucket comes in before them. Each number is stored once.
 // It asks for slots that are there and hold buckets, as they are in a sound trace.
+
+#![tactic(auto)]
+
 ghost use Rattle.std.specs.Prelude.{◌≡◌, ◌<◌};
 ghost use Rattle.rule.specs.Room.{laid, slots};
 ghost use Rattle.rule.specs.Table.{merge_at};

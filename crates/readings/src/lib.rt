@@ -1,4 +1,7 @@
 // The arithmetic of two readings.
+
+#![tactic(auto)]
+
 ghost use Rattle.std.specs.Prelude.{◌≡◌};
 ghost use Rattle.rule.specs.Bucket.{distance, larger, lesser, middle};
 

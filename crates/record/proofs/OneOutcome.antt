@@ -5,8 +5,8 @@ use Rattle.rule.proofs.Determined.{both, by_result}
 use Rattle.record.specs.contracts.read as read
 use Rattle.record.specs.contracts.write as write
 
-pub read_one : OneOutcome read.ended (λ M. read.clauses)
+pub read_one : OneOutcome read.ended (λ M 𝓤. read.clauses)
 read_one M 𝓤 𝓛 mem run κs a g r r' l l' = by_result 𝓤
 
-pub write_one : OneOutcome write.ended (λ M. write.clauses)
+pub write_one : OneOutcome write.ended (λ M 𝓤. write.clauses)
 write_one M 𝓤 𝓛 mem run κs a g r r' l l' = both 𝓤 (λ p q. (refl, ap (λ x. (x, l.1)) (p ∙ sym q)))

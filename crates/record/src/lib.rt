@@ -1,4 +1,7 @@
 // Sixteen bytes and a bucket.
+
+#![tactic(auto)]
+
 ghost use Rattle.std.specs.Prelude.{◌≡◌, ◌*◌, ◌≤◌, suc, length};
 ghost use Rattle.rule.specs.Numbers.{record_width};
 ghost use Rattle.rule.specs.Bytes.{record_at};

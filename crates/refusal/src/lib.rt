@@ -1,4 +1,7 @@
 // A refusal as numbers.
+
+#![tactic(auto)]
+
 ghost use Rattle.std.specs.Prelude.{◌≡◌};
 ghost use Rattle.rule.specs.Answers.{number, place};
 

@@ -1,4 +1,7 @@
 // What an accepted reading does to the room. It asks for slots that are there and hold buckets, as they are in a sound trace.
+
+#![tactic(auto)]
+
 ghost use Rattle.std.specs.Prelude.{◌≡◌, length};
 ghost use Rattle.rule.specs.Room.{laid, table_of};
 ghost use Rattle.rule.specs.Table.{accept, needed};

@@ -1,5 +1,7 @@
 // The types that every call speaks with. What is right stands in specs/, in document 01's words.
 
+#![tactic(auto)]
+
 // Ticks are 0 to one less than this.
 pub const TICKS: usize = 16777216;
 // B and K are 1 to this.
@@ -15,7 +17,7 @@ pub const WORD: i64 = 4294967296;
 
 // A start tick, a count of ticks, and the least and largest reading among exactly those ticks.
 #[repr(C)]
-#[derive(Drop)]
+#[derive(Clone, Copy)]
 pub struct Bucket {
     pub start: u32,
     pub count: u32,
@@ -24,21 +26,21 @@ pub struct Bucket {
 }
 
 // In order: the next reading takes the next tick. Late: each reading names its tick.
-#[derive(Drop)]
+#[derive(Clone, Copy)]
 pub enum Kind {
     InOrder,
     Late,
 }
 
 // How many steps a trace may have, as named: B, which stands for a base limit of 2B, or the base limit C itself.
-#[derive(Drop)]
+#[derive(Clone, Copy)]
 pub enum Size {
     Steps(usize),
     Base(usize),
 }
 
 // What a trace is opened, loaded or replayed with: its kind, B or C, K, and the edition of the tie rule.
-#[derive(Drop)]
+#[derive(Clone, Copy)]
 pub struct Opening {
     pub kind: Kind,
     pub size: Size,
@@ -47,7 +49,7 @@ pub struct Opening {
 }
 
 // What the state keeps of it: its kind, C, K and the edition.
-#[derive(Drop)]
+#[derive(Clone, Copy)]
 pub struct Settings {
     pub kind: Kind,
     pub base: usize,
@@ -56,7 +58,7 @@ pub struct Settings {
 }
 
 // The trace's state, handed back by each call.
-#[derive(Drop)]
+#[derive(Clone, Copy)]
 pub struct State {
     pub settings: Settings,
     pub used: usize,
@@ -65,7 +67,7 @@ pub struct State {
 }
 
 // The refusals, in the order of their numbers. Only a record's has a place other than 0.
-#[derive(Drop)]
+#[derive(Clone, Copy)]
 pub enum Refusal {
     Steps,
     Gaps,
@@ -86,7 +88,7 @@ pub enum Refusal {
 }
 
 // What lookup answers: the holding bucket's level, error, least and largest.
-#[derive(Drop)]
+#[derive(Clone, Copy)]
 pub enum Found {
     Level {
         level: i32,
@@ -98,14 +100,14 @@ pub enum Found {
 }
 
 // What the worst error answers: the greatest error of a bucket, 0 where there is none.
-#[derive(Drop)]
+#[derive(Clone, Copy)]
 pub enum Measured {
     Error(u32),
     Refused(Refusal),
 }
 
 // What row and save answer: the number of buckets written.
-#[derive(Drop)]
+#[derive(Clone, Copy)]
 pub enum Written {
     Buckets(usize),
     Refused(Refusal),
@@ -113,7 +115,7 @@ pub enum Written {
 
 // The session tally. Each count stops at the largest u32.
 #[repr(C)]
-#[derive(Drop)]
+#[derive(Clone, Copy)]
 pub struct Tally {
     pub accepted: u32,
     pub refused: u32,

@@ -1,4 +1,7 @@
 // The record rules, each asked by its number and all at once, and where a run begins. No other place of the code knows them.
+
+#![tactic(auto)]
+
 ghost use Rattle.std.specs.Prelude.{◌≡◌, cond, eqb};
 ghost use Rattle.rule.specs.Rules.{broken, follows};
 ghost use Rattle.rules.specs.Numbered.{meets};

@@ -1,4 +1,7 @@
 // What a picture shows of the buckets in the first slots, and where a tick and a level stand in it.
+
+#![tactic(auto)]
+
 ghost use Rattle.std.specs.Prelude.{◌≡◌, ◌-◌, ◌<◌, ◌^◌, max, pos};
 ghost use Rattle.rule.specs.Room.{slots};
 ghost use Rattle.rule.specs.Table.{Ordered};

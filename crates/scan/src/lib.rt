@@ -1,4 +1,7 @@
 // The cheapest neighbours met in one pass over slots, which asks for slots that are there and hold buckets, as they are in a sound trace, and for ticks in edition 2 alone.
+
+#![tactic(auto)]
+
 ghost use Rattle.std.specs.Prelude.{◌≡◌, ◌+◌, ◌-◌, ◌≤◌, cond};
 ghost use Rattle.rule.specs.Room.{slots};
 ghost use Rattle.rule.specs.Bucket.{neighbours, spread, union};
@@ -14,7 +17,7 @@ use slots::read;
 pub const ABOVE: u64 = WORD as u64;
 
 // The cheapest neighbours met so far: the place of the first of the two, the spread of their union, above every spread where none were met, and what decides among equal spreads.
-#[derive(Drop)]
+#[derive(Clone, Copy)]
 pub struct Best {
     pub place: usize,
     pub cost: u64,

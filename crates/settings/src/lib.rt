@@ -1,4 +1,7 @@
 // What is asked of a trace's kind and settings, each thing once. Nothing here but `limit` and `needed` asks anything of its caller.
+
+#![tactic(auto)]
+
 ghost use Rattle.std.specs.Prelude.{◌≡◌, ◌<◌, ◌^◌};
 ghost use Rattle.rule.specs.Calls.{late};
 ghost use Rattle.rule.specs.Room.{bounded, edition_good, gaps_good, runs_allowed};

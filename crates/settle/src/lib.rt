@@ -1,4 +1,7 @@
 // The cheapest neighbours merged while the buckets are more than the limit. It asks for slots that are there and hold buckets, as they are in a sound trace.
+
+#![tactic(auto)]
+
 ghost use Rattle.std.specs.Prelude.{◌≡◌, length};
 ghost use Rattle.rule.specs.Room.{laid, slots};
 ghost use Rattle.rule.specs.Table.{settle};

@@ -1,4 +1,7 @@
 // The text of a picture, printed from a place on: the caption, the scale and the lines.
+
+#![tactic(auto)]
+
 ghost use Rattle.std.specs.Prelude.{◌≡◌, ◌+◌, ◌≤◌, ◌<◌, ◌^◌, min, length};
 ghost use Rattle.rule.specs.Room.{slots};
 ghost use Rattle.output.specs.Output.{Put};

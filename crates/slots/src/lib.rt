@@ -1,5 +1,8 @@
 // The lent numbers, four to a slot: a slot read and a slot written.
 // Each function asks for a slot that is there, `read` for one that holds a bucket, as it is in a sound trace.
+
+#![tactic(auto)]
+
 ghost use Rattle.std.specs.Prelude.{◌≡◌, true, ◌*◌, ◌≤◌, suc, length};
 ghost use Rattle.rule.specs.Numbers.{slot_width};
 ghost use Rattle.rule.specs.Room.{slot, slot_ranged};

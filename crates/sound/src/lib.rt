@@ -1,4 +1,7 @@
 // Whether state and room are sound, for any state fields and any numbers.
+
+#![tactic(auto)]
+
 ghost use Rattle.std.specs.Prelude.{◌≡◌};
 ghost use Rattle.rule.specs.Room.{sound};
 

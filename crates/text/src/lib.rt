@@ -1,4 +1,7 @@
 // What a line of the input means, its bytes read, by the definitions of `notation`.
+
+#![tactic(auto)]
+
 ghost use Rattle.std.specs.Prelude.{◌≡◌};
 ghost use Rattle.notation.specs.Reading.{alone, first_space, late, line_of, pair, same, spaced, steps};
 

@@ -1,4 +1,7 @@
 // Whether a bucket has a tick of a range, and is over a bar.
+
+#![tactic(auto)]
+
 ghost use Rattle.std.specs.Prelude.{◌≡◌};
 ghost use Rattle.over.specs.Search.{over, touches};
 

@@ -15,13 +15,13 @@ use room::accept;
 use rule::{Found, Opening, Refusal, SLOT, State};
 
 // The trace's state, with its calls. Each hands the next one back.
-#[derive(Drop)]
+#[derive(Clone, Copy)]
 pub struct Trace {
     pub state: State,
 }
 
 // What open and the two readings answer.
-#[derive(Drop)]
+#[derive(Clone, Copy)]
 pub enum Answer {
     Accepted(Trace),
     Refused(Refusal),

@@ -1,4 +1,7 @@
 // Texts with numbers in them, printed from a place on.
+
+#![tactic(auto)]
+
 ghost use Rattle.std.specs.Prelude.{◌≡◌, cond, ◌+◌, ◌<◌, ◌^◌, eqb, pos, length, get_or, drop};
 ghost use Rattle.notation.specs.Printing.{whole};
 ghost use Rattle.output.specs.Output.{Put, filled, mark, sign};

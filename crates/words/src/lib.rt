@@ -1,4 +1,7 @@
 // Four bytes and a number of 32 bits, and 32 bits and a reading.
+
+#![tactic(auto)]
+
 ghost use Rattle.std.specs.Prelude.{◌≡◌, ◌+◌, ◌%◌, ◌≤◌, ◌<◌, length};
 ghost use Rattle.std.proofs.lemmas.List.Edits.{sets};
 ghost use Rattle.rule.specs.Bytes.{bits, bytes, reading, word_at};

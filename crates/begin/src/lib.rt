@@ -1,4 +1,7 @@
 // The reading of the listing's input begun, and whether it has ended.
+
+#![tactic(auto)]
+
 ghost use Rattle.std.specs.Prelude.{◌≡◌};
 ghost use Rattle.listing.specs.Feeding.{fresh, has_ended};
 

@@ -1,4 +1,7 @@
 // The calls for other languages that save and load a trace. Each hands on to the call of its name and does nothing of its own.
+
+#![tactic(auto)]
+
 ghost use Rattle.std.specs.Prelude.{◌≡◌};
 ghost use Rattle.plain.specs.Plain.{load_reply, save_reply};
 

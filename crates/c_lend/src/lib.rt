@@ -1,4 +1,7 @@
 // The calls for other languages that hand on a lent record: the tallied readings and the row. Each hands on to the call of its name and does nothing of its own.
+
+#![tactic(auto)]
+
 ghost use Rattle.std.specs.Prelude.{◌≡◌};
 ghost use Rattle.plain.specs.Plain.{late_reply, late_tally, next_reply, next_tally, row_reply};
 

@@ -3,5 +3,5 @@ use Rattle.rule.specs.Outcomes.{OneOutcome}
 use Rattle.rule.proofs.Determined.{by_pair}
 use Rattle.c_picture.specs.contracts.ndz_picture as picture
 
-pub picture_one : OneOutcome picture.ended (λ M. picture.clauses)
+pub picture_one : OneOutcome picture.ended (λ M 𝓤. picture.clauses)
 picture_one M 𝓤 𝓛 mem run κs a g r r' l l' = by_pair 𝓤 (λ x. (l.0, (l.1.0, (l.1.1.0, (x, l.1.1.1.1)))))

@@ -1,4 +1,7 @@
 // The call for other languages that writes a picture. It hands on to the call of its name and does nothing of its own.
+
+#![tactic(auto)]
+
 ghost use Rattle.std.specs.Prelude.{◌≡◌};
 ghost use Rattle.pictured.specs.Pictured.{picture_reply};
 

@@ -3,5 +3,5 @@ use Rattle.rule.specs.Outcomes.{OneOutcome}
 use Rattle.rule.proofs.Determined.{by_pair}
 use Rattle.c_replay.specs.contracts.ndz_replay as replay
 
-pub replay_one : OneOutcome replay.ended (λ M. replay.clauses)
+pub replay_one : OneOutcome replay.ended (λ M 𝓤. replay.clauses)
 replay_one M 𝓤 𝓛 mem run κs a g r r' l l' = by_pair 𝓤 (λ x. (l.0, (l.1.0, (x, l.1.1.1))))

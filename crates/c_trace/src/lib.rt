@@ -1,5 +1,8 @@
 // The calls for other languages that open and feed a trace: plain C functions over lent numbers and bytes, the state as plain fields.
 // include/ndezulangi.h is the manual of all exported functions. Each hands on to the call of its name and does nothing of its own.
+
+#![tactic(auto)]
+
 ghost use Rattle.std.specs.Prelude.{◌≡◌};
 ghost use Rattle.plain.specs.Plain.{late_reply, next_reply, open_reply};
 

@@ -1,4 +1,7 @@
 // The tally after one reading: its three counts, which stop at the most that 32 bits hold.
+
+#![tactic(auto)]
+
 ghost use Rattle.std.specs.Prelude.{◌+◌, ◌-◌, ◌≡◌};
 ghost use Rattle.rule.specs.Calls.{counted, grown};
 ghost use Rattle.trace.specs.Answers.{verdict};

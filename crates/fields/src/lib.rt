@@ -1,4 +1,7 @@
 // The state and what a trace is opened with as plain fields for other languages, and back.
+
+#![tactic(auto)]
+
 ghost use Rattle.std.specs.Prelude.{◌≡◌};
 ghost use Rattle.fields.specs.States.{fields_of, kind_of, none, number_of, opening_of, size_of, state_from};
 

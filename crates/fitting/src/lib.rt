@@ -1,4 +1,7 @@
 // A line obeyed by a trace that is known to be sound: a late reading is taken without a check.
+
+#![tactic(auto)]
+
 ghost use Rattle.std.specs.Prelude.{◌≡◌};
 ghost use Rattle.fitting.specs.Fitting.{Fit, fit_at, line_by};
 

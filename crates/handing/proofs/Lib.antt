@@ -1,4 +1,3 @@
--- Walks of code that is written out.
-pub mod Handing
+-- What the exported functions that hand on a lent record reply, by what the calls of their names do.
 pub mod Tallied
 pub mod Rows

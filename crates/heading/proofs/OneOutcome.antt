@@ -3,5 +3,5 @@ use Rattle.rule.specs.Outcomes.{OneOutcome}
 use Rattle.rule.proofs.Determined.{by_pair}
 use Rattle.heading.specs.contracts.head as head
 
-pub head_one : OneOutcome head.ended (λ M. head.clauses)
+pub head_one : OneOutcome head.ended (λ M 𝓤. head.clauses)
 head_one M 𝓤 𝓛 mem run κs a g r r' l l' = by_pair 𝓤 (λ x. (l.0, (x, l.1.1)))

@@ -1,4 +1,7 @@
 // The caption before a trace's lines, split off as pieces arrive.
+
+#![tactic(auto)]
+
 ghost use Rattle.std.specs.Prelude.{◌≡◌};
 ghost use Rattle.sketching.specs.Heading.{headed, headed_from, kept};
 

@@ -1,2 +1,2 @@
--- Walks of code that is written out.
+-- What the two readings that count in a lent tally leave.
 pub mod Reading

@@ -1,4 +1,7 @@
 // Bytes to lines: a line that has ended is read, obeyed and counted.
+
+#![tactic(auto)]
+
 ghost use Rattle.std.specs.Prelude.{◌≡◌};
 ghost use Rattle.listing.specs.Feeding.{answered_by, byte_fed, line_ended, line_fed, too_long};
 ghost use Rattle.listing.specs.Listing.{stage_after};

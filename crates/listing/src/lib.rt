@@ -1,5 +1,7 @@
 // The listing as one definition, in specs/, and the same read in pieces; here only the types that the reader has, and the edition that it opens with.
 
+#![tactic(auto)]
+
 use trace::Answer;
 
 // The edition of published pages.

@@ -3,5 +3,5 @@ use Rattle.rule.specs.Outcomes.{OneOutcome}
 use Rattle.rule.proofs.Determined.{by_pair}
 use Rattle.loaded.specs.contracts.load as load
 
-pub load_one : OneOutcome load.ended (λ M. load.clauses)
+pub load_one : OneOutcome load.ended (λ M 𝓤. load.clauses)
 load_one M 𝓤 𝓛 mem run κs a g r r' l l' = by_pair 𝓤 (λ x. (l.0, (l.1.0, (x, l.1.1.1))))

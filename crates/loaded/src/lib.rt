@@ -1,4 +1,7 @@
 // A trace loaded: the call, which asks nothing of its caller, and the inner loop that writes one slot after the other.
+
+#![tactic(auto)]
+
 ghost use Rattle.std.specs.Prelude.{◌≡◌, ◌++◌, ◌*◌, ◌≤◌, length, drop};
 ghost use Rattle.rule.specs.Numbers.{record_width, slot_width};
 ghost use Rattle.rule.specs.Bytes.{records};

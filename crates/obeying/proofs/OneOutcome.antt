@@ -3,5 +3,5 @@ use Rattle.rule.specs.Outcomes.{OneOutcome}
 use Rattle.rule.proofs.Determined.{by_pair}
 use Rattle.obeying.specs.contracts.obey as obey
 
-pub obey_one : OneOutcome obey.ended (λ M. obey.clauses)
+pub obey_one : OneOutcome obey.ended (λ M 𝓤. obey.clauses)
 obey_one M 𝓤 𝓛 mem run κs a g r r' l l' = by_pair 𝓤 (λ x. (l.0, (l.1.0, (x, l.1.1.1))))

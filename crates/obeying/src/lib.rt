@@ -1,4 +1,7 @@
 // What a line of the listing's input does, by the lines before it.
+
+#![tactic(auto)]
+
 ghost use Rattle.std.specs.Prelude.{◌≡◌, cond};
 ghost use Rattle.rule.specs.Calls.{late, opened};
 ghost use Rattle.trace.specs.Answers.{answered};

@@ -1,4 +1,7 @@
 // The call that writes a picture: the same text is printed twice, into one byte for its length, and then into the caller's output.
+
+#![tactic(auto)]
+
 ghost use Rattle.std.specs.Prelude.{◌≡◌};
 ghost use Rattle.drawing.specs.Call.{picture_outcome};
 

@@ -1,4 +1,7 @@
 // The answer of a picture as a plain record for other languages.
+
+#![tactic(auto)]
+
 ghost use Rattle.std.specs.Prelude.{◌≡◌};
 ghost use Rattle.pictured.specs.Pictured.{picturing};
 

@@ -1,4 +1,7 @@
 // The records that answers become for other languages, and the answers of those that open, feed, save and load.
+
+#![tactic(auto)]
+
 ghost use Rattle.std.specs.Prelude.{◌≡◌};
 ghost use Rattle.plain.specs.Plain.{replying, telling};
 

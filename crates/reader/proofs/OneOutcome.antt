@@ -3,5 +3,5 @@ use Rattle.rule.specs.Outcomes.{OneOutcome}
 use Rattle.rule.proofs.Determined.{by_pair}
 use Rattle.reader.specs.contracts.rest as rest
 
-pub rest_one : OneOutcome rest.ended (λ M. rest.clauses)
+pub rest_one : OneOutcome rest.ended (λ M 𝓤. rest.clauses)
 rest_one M 𝓤 𝓛 mem run κs a g r r' l l' = by_pair 𝓤 (λ x. (l.0, (x, l.1.1)))

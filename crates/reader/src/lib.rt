@@ -1,4 +1,7 @@
 // The end of the listing's input.
+
+#![tactic(auto)]
+
 ghost use Rattle.std.specs.Prelude.{◌≡◌};
 ghost use Rattle.listing.specs.Feeding.{rest_fed};
 

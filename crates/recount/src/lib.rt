@@ -1,4 +1,7 @@
 // The answer of a replay as a plain record for other languages.
+
+#![tactic(auto)]
+
 ghost use Rattle.std.specs.Prelude.{◌≡◌};
 ghost use Rattle.plain.specs.Plain.{recounting};
 

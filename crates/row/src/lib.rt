@@ -1,4 +1,7 @@
 // The chart row: the buckets of a sound trace, written into the caller's records.
+
+#![tactic(auto)]
+
 ghost use Rattle.std.specs.Prelude.{◌≡◌};
 ghost use Rattle.rule.specs.Calls.{row_outcome};
 ghost use Rattle.row.specs.Answers.{number, row_answer};

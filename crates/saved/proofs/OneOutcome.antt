@@ -3,5 +3,5 @@ use Rattle.rule.specs.Outcomes.{OneOutcome}
 use Rattle.rule.proofs.Determined.{by_pair}
 use Rattle.saved.specs.contracts.save as save
 
-pub save_one : OneOutcome save.ended (λ M. save.clauses)
+pub save_one : OneOutcome save.ended (λ M 𝓤. save.clauses)
 save_one M 𝓤 𝓛 mem run κs a g r r' l l' = by_pair 𝓤 (λ x. (l.0, (l.1.0, (x, l.1.1.1))))

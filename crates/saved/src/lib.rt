@@ -1,4 +1,7 @@
 // A trace saved: the call, which asks nothing of its caller, and the inner loop that writes one record after the other.
+
+#![tactic(auto)]
+
 ghost use Rattle.std.specs.Prelude.{◌≡◌, ◌++◌, ◌*◌, ◌≤◌, length, drop};
 ghost use Rattle.rule.specs.Numbers.{record_width};
 ghost use Rattle.rule.specs.Bytes.{saved};

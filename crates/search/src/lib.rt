@@ -1,4 +1,7 @@
 // Where the pin first goes over: the first bucket of a range whose largest reading is at or above a bar.
+
+#![tactic(auto)]
+
 ghost use Rattle.std.specs.Prelude.{◌≡◌};
 ghost use Rattle.over.specs.Search.{first_over, search_outcome, sought};
 ghost use Rattle.rule.specs.Room.{slots};

@@ -1,4 +1,7 @@
 // The listing of what was read, as bytes: the buckets and their total, or the refused line.
+
+#![tactic(auto)]
+
 ghost use Rattle.std.specs.Prelude.{◌*◌, ◌≤◌, ◌≡◌, length};
 ghost use Rattle.rule.specs.Room.{slots, table_of};
 ghost use Rattle.rooms.specs.Slots.{Filled};

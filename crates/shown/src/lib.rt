@@ -1,4 +1,7 @@
 // The answers of those that look at a trace, as plain records for other languages.
+
+#![tactic(auto)]
+
 ghost use Rattle.std.specs.Prelude.{◌≡◌};
 ghost use Rattle.plain.specs.Plain.{erring, pointing, showing};
 

@@ -1,4 +1,7 @@
 // The picture of what was read, as bytes, or the refused line.
+
+#![tactic(auto)]
+
 ghost use Rattle.std.specs.Prelude.{◌≤◌, ◌≡◌, true, length};
 ghost use Rattle.rule.specs.Room.{sound, table_of};
 ghost use Rattle.notation.specs.Printing.{Printed};

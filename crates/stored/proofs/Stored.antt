@@ -133,6 +133,7 @@ drawn_by c q = sketched q.0 q.1.1 q.1.0 c
 
 no_line_feed : (line : List ℕ) → Unbroken line → Memᴰ line_feed line → ⊥
 unfolding Unbroken
+no_line_feed [] u m = elim m [ ]
 no_line_feed (b ∷ l) u (Memᴰ.head e) = true≢false (rw (sym e) at u.0)
 no_line_feed (b ∷ l) u (Memᴰ.tail m) = no_line_feed l u.1 m
 

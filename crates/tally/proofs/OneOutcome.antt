@@ -1,31 +1,12 @@
 -- Each public function's contract allows one outcome.
-use mathlib.Core.Path.{◌≡◌, sym, ap, ◌∙◌}
-use Prim.Native.Nat.{ℕ}
-use mathlib.Core.List.{List}
-use lib.IntN.{ℤ}
-use Rattle.rule.specs.declared.Tally.{Tally}
-use Rattle.rule.specs.Calls.{counted as tallied}
-use Rattle.trace.specs.declared.Answer.{Answer}
-use Rattle.trace.specs.Answers.{verdict}
 use Rattle.rule.specs.Outcomes.{OneOutcome}
 use Rattle.rule.proofs.Determined.{both}
+use Rattle.lending.proofs.Reading.{same}
 use Rattle.tally.specs.contracts.next as next
 use Rattle.tally.specs.contracts.late as late
 
--- a reading's answer, the room and the tally of two outcomes
-record Same (r r' : Answer) (m m' : List ℤ) (t t' : Tally) : Type 0 where
-  answer : r ≡ r'
-  room : m ≡ m'
-  tally : t ≡ t'
-
-same : (before : Tally) (used : ℕ) {o : Answer × List ℤ} {r r' : Answer} {m m' : List ℤ} {t t' : Tally}
-    → ((r, m) ≡ o) × (t ≡ tallied before used (verdict r)) → ((r', m') ≡ o) × (t' ≡ tallied before used (verdict r')) → Same r r' m m' t t'
-same before used p q =
-    let e = p.0 ∙ sym q.0 in
-    record { answer = λ i. (e i).0; room = λ i. (e i).1; tally = p.1 ∙ (ap (λ x. tallied before used (verdict x.0)) e ∙ sym q.1) }
-
-pub next_one : OneOutcome next.ended (λ M. next.clauses)
+pub next_one : OneOutcome next.ended (λ M 𝓤. next.clauses)
 next_one M 𝓤 𝓛 mem run κs a g r r' l l' = both 𝓤 (λ p q. let e = same a.1.1.1.0.now a.0.state.used p q in (e.answer, λ i. (l.0, (e.room i, (l.1.1.0, (e.tally i, l.1.1.1.1))))))
 
-pub late_one : OneOutcome late.ended (λ M. late.clauses)
+pub late_one : OneOutcome late.ended (λ M 𝓤. late.clauses)
 late_one M 𝓤 𝓛 mem run κs a g r r' l l' = both 𝓤 (λ p q. let e = same a.1.1.1.1.0.now a.0.state.used p q in (e.answer, λ i. (l.0, (e.room i, (l.1.1.0, (l.1.1.1.0, (e.tally i, l.1.1.1.1.1)))))))

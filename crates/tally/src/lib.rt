@@ -1,4 +1,7 @@
 // The session tally: a record that the caller lends with a reading and gets back changed. Nothing else touches it.
+
+#![tactic(auto)]
+
 ghost use Rattle.std.specs.Prelude.{◌≡◌};
 ghost use Rattle.rule.specs.Calls.{counted, late_outcome, next_outcome};
 ghost use Rattle.trace.specs.Answers.{answered, verdict};

@@ -1,4 +1,7 @@
 // What a caller calls: a trace in order or late over lent room. Open, next, late and lookup ask nothing of their caller.
+
+#![tactic(auto)]
+
 ghost use Rattle.std.specs.Prelude.{◌≡◌};
 ghost use Rattle.rule.specs.Calls.{late_outcome, lookup_outcome, next_outcome, opened, state_of, traced};
 ghost use Rattle.rule.specs.Room.{laid, table_of};

@@ -1,4 +1,7 @@
 // The worst error of a trace.
+
+#![tactic(auto)]
+
 ghost use Rattle.std.specs.Prelude.{◌≡◌};
 ghost use Rattle.rule.specs.Calls.{worst_outcome};
 ghost use Rattle.rule.specs.Room.{slots};

@@ -1,0 +1,9 @@
+-- `c_lend::ndz_next_tallied` meets its contract: it hands on to the call of its name, of the trace that the fields are.
+use mir.Facts.{to_z-of_z}
+use Rattle.handing.proofs.Tallied.{next_handed}
+use Rattle.c_lend.proofs.ndz_next_tallied.Goals as goal
+
+pub returns : goal.returns
+returns c =
+    let a = c.next-a in
+    next_handed c.args.state c.trace_of-trace.result.state c.trace_of-trace.ensures c.args.room.now a.new.room a.result c.args.tally.now a.new.tally c.replying.result c.replying.ensures c.args.value (rw (to_z-of_z c.ranges.value) at a.ensures)

@@ -1,13 +1,17 @@
 // Obeys a short script from standard input and writes what every call answers and leaves. The language is the one that second/src/command.rs
 // describes; obeyed are the calls but for the search, the row, the replay, the picture and the readings with a tally, and of the changes state,
 // room, set, file, byte, take and reading.
+
+#![tactic(auto)]
+
 mod line;
 mod show;
 
-ghost use Rattle.std.specs.Prelude.{◌≤◌};
+ghost use Rattle.std.specs.Prelude.{◌≤◌, length};
 
 use line::{AT, BY, BYTES, EDITION, FROM, NUMBERS, Reading, SIZE, TICK, TICKS, VALUE, VALUES};
 use rule::{Kind, Opening, Settings, Size, State};
+use std::io::Read;
 use trace::{Answer, Trace};
 
 // What the script has made besides the lent arrays: the state at hand, how many numbers of the room are lent and how many bytes of the file,
@@ -151,7 +155,7 @@ fn put_byte(file: &mut [u8], at: usize, bits: u64) {
 fn take(file: &mut [u8], output: &[u8], count: usize) {
     if count <= file.len() {
         if count <= output.len() {
-            bytes::copy(&output[0..count], &mut file[0..count]);
+            file[0..count].copy_from_slice(&output[0..count]);
         }
     }
 }
@@ -178,27 +182,34 @@ fn call(word: u64, given: &[u64; 18], trace: Trace, room: &mut [i64], file: &[u8
 }
 
 // A reading, which hands back the trace that it was given where it is refused.
-fn read_on(word: u64, given: &[u64; 18], trace: Trace, room: &mut [i64]) -> Trace {
+fn read_on(rt: &impl Print, word: u64, given: &[u64; 18], trace: Trace, room: &mut [i64]) -> Trace {
     let answer = call(word, given, trace, room, b"");
-    show::answer(word, trace, answer);
-    show::numbers(b" room ", room);
-    show::text(b"\n");
+    show::answer(rt, word, trace, answer);
+    show::numbers(rt, "room", room);
+    show::text(rt, "\n");
     taken(trace, answer)
 }
 
 // Many readings in order, which hand back the trace after the accepted ones.
-fn next_many(given: &[u64; 18], trace: Trace, room: &mut [i64], values: &[i32]) -> Trace {
+fn next_many(
+    rt: &impl Print,
+    given: &[u64; 18],
+    trace: Trace,
+    room: &mut [i64],
+    values: &[i32],
+) -> Trace {
     let from = least(given[FROM] as usize, values.len());
     let count = least(given[VALUES] as usize, values.len() - from);
     let progress = many::next(trace, &mut *room, &values[from..from + count]);
-    show::fed(b"nextmany", progress);
-    show::numbers(b" room ", room);
-    show::text(b"\n");
+    show::fed(rt, "nextmany", progress);
+    show::numbers(rt, "room", room);
+    show::text(rt, "\n");
     progress.trace
 }
 
 // Many late ones.
 fn late_many(
+    rt: &impl Print,
     given: &[u64; 18],
     trace: Trace,
     room: &mut [i64],
@@ -211,26 +222,34 @@ fn late_many(
     let from = least(given[FROM] as usize, values.len());
     let more = least(given[VALUES] as usize, values.len() - from);
     let progress = many_late::late(trace, &mut *room, lent, &values[from..from + more]);
-    show::fed(b"latemany", progress);
-    show::numbers(b" room ", room);
-    show::text(b"\n");
+    show::fed(rt, "latemany", progress);
+    show::numbers(rt, "room", room);
+    show::text(rt, "\n");
     progress.trace
 }
 
 // An open or a load, which has none to hand back.
-fn begin(word: u64, given: &[u64; 18], trace: Trace, room: &mut [i64], file: &[u8]) -> Trace {
+fn begin(
+    rt: &impl Print,
+    word: u64,
+    given: &[u64; 18],
+    trace: Trace,
+    room: &mut [i64],
+    file: &[u8],
+) -> Trace {
     let answer = call(word, given, trace, room, file);
-    show::answer(word, trace_of(&[0; 18]), answer);
-    show::numbers(b" room ", room);
+    show::answer(rt, word, trace_of(&[0; 18]), answer);
+    show::numbers(rt, "room", room);
     if word == line::LOAD {
-        show::bytes(b" file ", file);
+        show::bytes(rt, "file", file);
     }
-    show::text(b"\n");
+    show::text(rt, "\n");
     taken(trace, answer)
 }
 
 // What hands back a trace.
 fn go_on(
+    rt: &impl Print,
     word: u64,
     given: &[u64; 18],
     held: Held,
@@ -242,11 +261,12 @@ fn go_on(
     let numbers = least(held.numbers, room.len());
     let bytes = least(held.bytes, file.len());
     match word {
-        line::NEXT => read_on(word, given, held.trace, &mut room[0..numbers]),
-        line::LATE => read_on(word, given, held.trace, &mut room[0..numbers]),
-        line::NEXT_MANY => next_many(given, held.trace, &mut room[0..numbers], values),
-        line::LATE_MANY => late_many(given, held.trace, &mut room[0..numbers], ticks, values),
+        line::NEXT => read_on(rt, word, given, held.trace, &mut room[0..numbers]),
+        line::LATE => read_on(rt, word, given, held.trace, &mut room[0..numbers]),
+        line::NEXT_MANY => next_many(rt, given, held.trace, &mut room[0..numbers], values),
+        line::LATE_MANY => late_many(rt, given, held.trace, &mut room[0..numbers], ticks, values),
         line::OPEN => begin(
+            rt,
             word,
             given,
             held.trace,
@@ -254,6 +274,7 @@ fn go_on(
             &file[0..bytes],
         ),
         line::LOAD => begin(
+            rt,
             word,
             given,
             held.trace,
@@ -265,33 +286,33 @@ fn go_on(
     }
 }
 
-fn look(given: &[u64; 18], trace: Trace, room: &[i64]) {
-    show::found(trace.lookup(room, tick(given)));
-    show::numbers(b" room ", room);
-    show::text(b"\n");
+fn look(rt: &impl Print, given: &[u64; 18], trace: Trace, room: &[i64]) {
+    show::found(rt, trace.lookup(room, tick(given)));
+    show::numbers(rt, "room", room);
+    show::text(rt, "\n");
 }
 
-fn save(given: &[u64; 18], trace: Trace, room: &[i64], output: &mut [u8]) {
+fn save(rt: &impl Print, given: &[u64; 18], trace: Trace, room: &[i64], output: &mut [u8]) {
     let count = least(given[BYTES] as usize, output.len());
-    show::written(saved::save(trace, room, &mut output[0..count]));
-    show::numbers(b" room ", room);
-    show::bytes(b" output ", &output[0..count]);
-    show::text(b"\n");
+    show::written(rt, saved::save(trace, room, &mut output[0..count]));
+    show::numbers(rt, "room", room);
+    show::bytes(rt, "output", &output[0..count]);
+    show::text(rt, "\n");
 }
 
-fn measure(trace: Trace, room: &[i64]) {
-    show::worst(worst::worst(trace, room));
-    show::numbers(b" room ", room);
-    show::text(b"\n");
+fn measure(rt: &impl Print, trace: Trace, room: &[i64]) {
+    show::worst(rt, worst::worst(trace, room));
+    show::numbers(rt, "room", room);
+    show::text(rt, "\n");
 }
 
 // A call that leaves the trace.
-fn ask(word: u64, given: &[u64; 18], held: Held, room: &[i64], output: &mut [u8]) {
+fn ask(rt: &impl Print, word: u64, given: &[u64; 18], held: Held, room: &[i64], output: &mut [u8]) {
     let lent = &room[0..least(held.numbers, room.len())];
     match word {
-        line::LOOKUP => look(given, held.trace, lent),
-        line::SAVE => save(given, held.trace, lent, output),
-        line::WORST => measure(held.trace, lent),
+        line::LOOKUP => look(rt, given, held.trace, lent),
+        line::SAVE => save(rt, given, held.trace, lent, output),
+        line::WORST => measure(rt, held.trace, lent),
         _ => {}
     }
 }
@@ -336,6 +357,7 @@ fn lent(word: u64, given: &[u64; 18], held: Held) -> Held {
 }
 
 fn obey(
+    rt: &impl Print,
     word: u64,
     given: &[u64; 18],
     held: Held,
@@ -347,14 +369,15 @@ fn obey(
 ) -> Held {
     change(word, given, room, file, output, ticks, values);
     let mut next = lent(word, given, held);
-    ask(word, given, next, room, output);
-    let trace = go_on(word, given, next, room, file, ticks, values);
+    ask(rt, word, given, next, room, output);
+    let trace = go_on(rt, word, given, next, room, file, ticks, values);
     next.trace = trace;
     next
 }
 
 // One byte of the script: within a word or a number, behind one, or at the end of a line, which is then obeyed.
 fn turn(
+    rt: &impl Print,
     byte: u8,
     held: Held,
     given: &mut [u64; 18],
@@ -369,6 +392,7 @@ fn turn(
     if byte == 10 {
         line::put(given, reading);
         next = obey(
+            rt,
             reading.ended().word,
             given,
             held,
@@ -392,6 +416,7 @@ fn turn(
 }
 
 fn run(
+    rt: &impl Print,
     script: &[u8],
     room: &mut [i64],
     file: &mut [u8],
@@ -410,19 +435,39 @@ fn run(
     while i < script.len() {
         let byte = script[i];
         i += 1;
-        held = turn(byte, held, &mut given, room, file, output, ticks, values);
+        held = turn(
+            rt, byte, held, &mut given, room, file, output, ticks, values,
+        );
     }
 }
 
-fn main() {
+// Reads until the buffer is full, the input ends or a read fails. Answers how many bytes it has then.
+fn read_full(input: &mut impl Read, buffer: &mut [u8]) -> usize
+    ensures { result ≤ length buffer.new }
+{
+    let mut done = 0;
+    while done < buffer.len() {
+        let Ok(count) = input.read(&mut buffer[done..]) else {
+            return done;
+        };
+        if count == 0 {
+            return done;
+        }
+        done += count;
+    }
+    done
+}
+
+fn main(rt: HostRuntime) {
     let mut room = [0i64; 8192];
     let mut file = [0u8; 65536];
     let mut output = [0u8; 65536];
     let mut ticks = [0u32; 4096];
     let mut values = [0i32; 4096];
-    let mut script = io::large_buffer();
-    let count = io::read_full(libc::STDIN_FILENO, &mut script);
+    let mut script = [0u8; 65536];
+    let count = read_full(&mut rt.stdin(), &mut script);
     run(
+        &rt,
         &script[0..count],
         &mut room,
         &mut file,

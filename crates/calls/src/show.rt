@@ -4,26 +4,26 @@ use many::{Ending, Progress};
 use rule::{Found, Kind, Measured, Refusal, Written};
 use trace::{Answer, Trace};
 
-pub(crate) fn text(bytes: &[u8]) {
-    io::write_all(libc::STDOUT_FILENO, bytes);
+// What cannot be written is left out, and the script goes on.
+pub(crate) fn text(rt: &impl Print, text: &str) {
+    let _ = rt.print(text);
 }
 
-fn unsigned(number: u64) {
-    text(b" ");
-    io::print_decimal(libc::STDOUT_FILENO, number);
+fn unsigned(rt: &impl Print, number: u64) {
+    let _ = print!(rt; " {number}");
 }
 
-fn signed(number: i32) {
-    text(b" ");
-    if number < 0 {
-        text(b"-");
-    }
-    io::print_decimal(libc::STDOUT_FILENO, readings::distance(number, 0) as u64);
+fn signed(rt: &impl Print, number: i32) {
+    let _ = print!(rt; " {number}");
 }
 
-fn refused(refusal: Refusal) {
-    unsigned(refusal::number(refusal) as u64);
-    unsigned(refusal::place(refusal) as u64);
+fn checksum(rt: &impl Print, name: &str, sum: u64) {
+    let _ = print!(rt; " {name} {sum:016x}");
+}
+
+fn refused(rt: &impl Print, refusal: Refusal) {
+    unsigned(rt, refusal::number(refusal) as u64);
+    unsigned(rt, refusal::place(refusal) as u64);
 }
 
 pub(crate) fn number_of(kind: Kind) -> usize {
@@ -33,56 +33,56 @@ pub(crate) fn number_of(kind: Kind) -> usize {
     }
 }
 
-fn state(trace: Trace) {
+fn state(rt: &impl Print, trace: Trace) {
     let state = trace.state;
     let settings = state.settings;
     let kind = settings.kind;
-    unsigned(number_of(kind) as u64);
-    unsigned(settings.base as u64);
-    unsigned(settings.gaps as u64);
-    unsigned(state.used as u64);
-    unsigned(state.runs as u64);
-    unsigned(state.readings as u64);
-    unsigned(settings.edition as u64);
+    unsigned(rt, number_of(kind) as u64);
+    unsigned(rt, settings.base as u64);
+    unsigned(rt, settings.gaps as u64);
+    unsigned(rt, state.used as u64);
+    unsigned(rt, state.runs as u64);
+    unsigned(rt, state.readings as u64);
+    unsigned(rt, settings.edition as u64);
 }
 
-fn name(word: u64) {
+fn name(rt: &impl Print, word: u64) {
     match word {
-        line::OPEN => text(b"open"),
-        line::NEXT => text(b"next"),
-        line::LATE => text(b"late"),
-        _ => text(b"load"),
+        line::OPEN => text(rt, "open"),
+        line::NEXT => text(rt, "next"),
+        line::LATE => text(rt, "late"),
+        _ => text(rt, "load"),
     }
 }
 
 // Where it is refused, the trace is the given one.
-pub(crate) fn answer(word: u64, given: Trace, answer: Answer) {
-    name(word);
+pub(crate) fn answer(rt: &impl Print, word: u64, given: Trace, answer: Answer) {
+    name(rt, word);
     match answer {
         Answer::Accepted(trace) => {
-            text(b" 0 0");
-            state(trace);
+            text(rt, " 0 0");
+            state(rt, trace);
         }
         Answer::Refused(refusal) => {
-            refused(refusal);
-            state(given);
+            refused(rt, refusal);
+            state(rt, given);
         }
     }
 }
 
-pub(crate) fn fed(name: &[u8], progress: Progress) {
-    text(name);
+pub(crate) fn fed(rt: &impl Print, name: &str, progress: Progress) {
+    text(rt, name);
     let ending = progress.ending;
     match ending {
-        Ending::Whole => text(b" 0 0"),
-        Ending::Refused(refusal) => refused(refusal),
+        Ending::Whole => text(rt, " 0 0"),
+        Ending::Refused(refusal) => refused(rt, refusal),
     }
-    state(progress.trace);
-    unsigned(progress.accepted as u64);
+    state(rt, progress.trace);
+    unsigned(rt, progress.accepted as u64);
 }
 
-pub(crate) fn found(found: Found) {
-    text(b"lookup");
+pub(crate) fn found(rt: &impl Print, found: Found) {
+    text(rt, "lookup");
     match found {
         Found::Level {
             level,
@@ -90,43 +90,43 @@ pub(crate) fn found(found: Found) {
             least,
             largest,
         } => {
-            text(b" 0 0");
-            signed(level);
-            unsigned(error as u64);
-            signed(least);
-            signed(largest);
+            text(rt, " 0 0");
+            signed(rt, level);
+            unsigned(rt, error as u64);
+            signed(rt, least);
+            signed(rt, largest);
         }
         Found::Refused(refusal) => {
-            refused(refusal);
-            text(b" 0 0 0 0");
+            refused(rt, refusal);
+            text(rt, " 0 0 0 0");
         }
     }
 }
 
-pub(crate) fn worst(measured: Measured) {
-    text(b"worst");
+pub(crate) fn worst(rt: &impl Print, measured: Measured) {
+    text(rt, "worst");
     match measured {
         Measured::Error(error) => {
-            text(b" 0 0");
-            unsigned(error as u64);
+            text(rt, " 0 0");
+            unsigned(rt, error as u64);
         }
         Measured::Refused(refusal) => {
-            refused(refusal);
-            text(b" 0");
+            refused(rt, refusal);
+            text(rt, " 0");
         }
     }
 }
 
-pub(crate) fn written(written: Written) {
-    text(b"save");
+pub(crate) fn written(rt: &impl Print, written: Written) {
+    text(rt, "save");
     match written {
         Written::Buckets(count) => {
-            text(b" 0 0");
-            unsigned(count as u64);
+            text(rt, " 0 0");
+            unsigned(rt, count as u64);
         }
         Written::Refused(refusal) => {
-            refused(refusal);
-            text(b" 0");
+            refused(rt, refusal);
+            text(rt, " 0");
         }
     }
 }
@@ -153,24 +153,22 @@ fn wide(byte: u8) -> u64 {
 }
 
 // The checksum of lent numbers.
-pub(crate) fn numbers(name: &[u8], numbers: &[i64]) {
+pub(crate) fn numbers(rt: &impl Print, name: &str, numbers: &[i64]) {
     let mut sum = numbers.len() as u64;
     let mut i = 0;
     while i < numbers.len() {
         sum = mixed(sum, bits(numbers[i]));
         i += 1;
     }
-    text(name);
-    io::print_hex(libc::STDOUT_FILENO, sum, 16);
+    checksum(rt, name, sum);
 }
 
-pub(crate) fn bytes(name: &[u8], bytes: &[u8]) {
+pub(crate) fn bytes(rt: &impl Print, name: &str, bytes: &[u8]) {
     let mut sum = bytes.len() as u64;
     let mut i = 0;
     while i < bytes.len() {
         sum = mixed(sum, wide(bytes[i]));
         i += 1;
     }
-    text(name);
-    io::print_hex(libc::STDOUT_FILENO, sum, 16);
+    checksum(rt, name, sum);
 }

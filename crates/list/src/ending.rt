@@ -1,20 +1,21 @@
-// How a run ended, in a line on standard error: the language gives a program no exit status, and what starts it makes one from these lines.
+// How a run ended, in a line on standard error: what starts the program makes an exit status from these lines.
 
-fn tell(line: &[u8]) {
-    io::write_all(libc::STDERR_FILENO, line);
+// Where the line cannot be written, nothing more can be said.
+fn tell(rt: &impl Eprint, line: &str) {
+    let _ = rt.eprintln(line);
 }
 
-pub(crate) fn unread() {
-    tell(b"listing: the input cannot be read\n");
+pub(crate) fn unread(rt: &impl Eprint) {
+    tell(rt, "listing: the input cannot be read");
 }
 
 // Says nothing of a whole listing.
-pub(crate) fn shown(refused: bool, written: bool) {
+pub(crate) fn shown(rt: &impl Eprint, refused: bool, written: bool) {
     if !written {
-        tell(b"listing: the output cannot be written\n");
+        tell(rt, "listing: the output cannot be written");
         return;
     }
     if refused {
-        tell(b"listing: the input is refused\n");
+        tell(rt, "listing: the input is refused");
     }
 }

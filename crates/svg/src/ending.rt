@@ -1,12 +1,13 @@
-// How a run ended, in a line on standard error: the language gives a program no exit status, and what starts it makes one from these lines.
+// How a run ended, in a line on standard error: what starts the program makes an exit status from these lines.
 ghost use Rattle.std.specs.Prelude.{◌≡◌, ◌&&◌, not};
 
-fn tell(line: &[u8]) {
-    io::write_all(libc::STDERR_FILENO, line);
+// Where the line cannot be written, nothing more can be said.
+fn tell(rt: &impl Eprint, line: &str) {
+    let _ = rt.eprintln(line);
 }
 
-pub(crate) fn unread() {
-    tell(b"picture: the input cannot be read\n");
+pub(crate) fn unread(rt: &impl Eprint) {
+    tell(rt, "picture: the input cannot be read");
 }
 
 // Whether nothing was refused: a caption that is not good and a refused line end the run.
@@ -17,12 +18,12 @@ pub(crate) fn goes_on(good: bool, refused: bool) -> bool
 }
 
 // Says nothing of a picture.
-pub(crate) fn shown(drawn: bool, written: bool) {
+pub(crate) fn shown(rt: &impl Eprint, drawn: bool, written: bool) {
     if !written {
-        tell(b"picture: the output cannot be written\n");
+        tell(rt, "picture: the output cannot be written");
         return;
     }
     if !drawn {
-        tell(b"picture: the input is refused\n");
+        tell(rt, "picture: the input is refused");
     }
 }

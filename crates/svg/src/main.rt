@@ -1,17 +1,22 @@
 // The picture program: a caption and a trace's lines from standard input, the picture to standard output, or the first refused line.
+
+#![tactic(auto)]
+
 use heading::head;
 use legible::caption_good;
 use sketch::sketch;
 use sketching::Heading;
+use std::io::Read;
 
 mod ending;
 
 // A caption that is not good and a refused line end the run, and nothing more is read. Where the input cannot be read to its end, what was read of it is not drawn.
-fn main() {
+fn main(rt: HostRuntime) {
     let mut room = [0i64; 3076];
     let mut line = [0u8; 64];
     let mut caption = [0u8; 201];
-    let mut piece = io::large_buffer();
+    let mut piece = [0u8; 65536];
+    let mut input = rt.stdin();
     let mut state = begin::begin(&mut room);
     let mut heading = Heading {
         filled: 0,
@@ -20,12 +25,10 @@ fn main() {
     };
     let mut more = true;
     while more {
-        let got = libc::read(libc::STDIN_FILENO, &mut piece);
-        if got < 0 {
-            ending::unread();
+        let Ok(n) = input.read(&mut piece) else {
+            ending::unread(&rt);
             return;
-        }
-        let n = io::count(got, &piece);
+        };
         if n == 0 {
             more = false;
         } else {
@@ -41,7 +44,7 @@ fn main() {
     let mut out = [0u8; 22866];
     let filled = heading.filled;
     let n = sketch(state, &room, &caption[0..filled], &mut out);
-    let written = io::write_all(libc::STDOUT_FILENO, &out[0..n]);
+    let written = rt.write_all(&out[0..n]).is_ok();
     let good = caption_good(&caption[0..filled]);
-    ending::shown(ending::goes_on(good, begin::ended(state)), written);
+    ending::shown(&rt, ending::goes_on(good, begin::ended(state)), written);
 }

@@ -1,4 +1,7 @@
 // The calls for other languages that take many readings. Each hands on to the call of its name and does nothing of its own.
+
+#![tactic(auto)]
+
 ghost use Rattle.std.specs.Prelude.{◌≡◌};
 ghost use Rattle.feeding.specs.Feeding.{late_many_reply, next_many_reply};
 

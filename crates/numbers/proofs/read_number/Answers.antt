@@ -18,7 +18,6 @@ use Rattle.numbers.proofs.read_number.Goals as goal
 behind : (c : After-digits-size) → c.digits-size.result ≡ digits (drop 1 c.args.s.now)
 behind c = c.digits-size.ensures ∙ ap digits (rest c.args.s.now 1)
 
--- what the bytes behind_in_whole the sign stand for
 behind_in_whole : (c : In-Whole) → c.digits-size.result ≡ digits (drop 1 c.args.s.now)
 behind_in_whole c = c.digits-size.ensures ∙ ap digits (rest c.args.s.now 1)
 

@@ -1,3 +1,3 @@
-// The walk of the two readings that count in a lent tally, of their codes written out: laws in proofs/. There is no code here.
+// What the two readings that count in a lent tally leave: a law in proofs/. There is no code here.
 
 #![tactic(auto)]

@@ -3,39 +3,39 @@
 #![tactic(auto)]
 
 ghost use Rattle.std.specs.Prelude.{◌≡◌, []};
-ghost use Rattle.rule.specs.Calls.{accepted, admitted, kept};
+ghost use Rattle.rule.specs.Calls.{admitted, kept};
 ghost use Rattle.admission.specs.Admission.{admission};
 
 use openings::{kept, size_good};
 use rule::{Opening, Refusal, SLOT, Settings};
 use settings::{edition_good, gaps_good, needed};
 
-// The settings to keep and the slots that are needed, or the refusal.
+// The settings to keep and the slots that are needed.
 #[derive(Clone, Copy)]
-pub enum Admitted {
-    Granted { settings: Settings, slots: usize },
-    Refused(Refusal),
+pub struct Admitted {
+    pub settings: Settings,
+    pub slots: usize,
 }
 
 // Refusals 16, 1, 2 and 3.
-pub fn admit(named: Opening, room: &[i64]) -> Admitted
-    ensures { result ≡ admission (kept named) (admitted named room.now (accepted [])) }
+pub fn admit(named: Opening, room: &[i64]) -> Result<Admitted, Refusal>
+    ensures { result ≡ admission (kept named) (admitted named room.now (Ok [])) }
 {
     if !edition_good(named.edition) {
-        return Admitted::Refused(Refusal::Edition);
+        return Err(Refusal::Edition);
     }
     let size = named.size;
     if !size_good(size) {
-        return Admitted::Refused(Refusal::Steps);
+        return Err(Refusal::Steps);
     }
     let s = kept(named);
     let kind = s.kind;
     if !gaps_good(kind, s.gaps) {
-        return Admitted::Refused(Refusal::Gaps);
+        return Err(Refusal::Gaps);
     }
     let slots = needed(s);
     if room.len() < SLOT * slots {
-        return Admitted::Refused(Refusal::Room);
+        return Err(Refusal::Room);
     }
-    Admitted::Granted { settings: s, slots }
+    Ok(Admitted { settings: s, slots })
 }

@@ -22,7 +22,7 @@ use Rattle.rule.specs.declared.State.{State}
 use Rattle.rule.specs.declared.Tally.{Tally}
 use Rattle.rule.specs.Answers.{number, place}
 use Rattle.rule.specs.Bytes.{records_of, saved}
-use Rattle.rule.specs.Calls.{Check, Verdict, accepted, admitted, base_of, checked, counted, file_verdict, found, found_of, gaps_kept, grown, is_held, kept, late, late_outcome, late_verdict, load_verdict, loaded, lookup_outcome, measured, next_outcome, next_verdict, opened, refused, size_good, traced, worst_outcome, write_verdict, wrote}
+use Rattle.rule.specs.Calls.{Check, Verdict, admitted, base_of, checked, counted, file_verdict, found, found_of, gaps_kept, grown, is_held, kept, late, late_outcome, late_verdict, load_verdict, loaded, lookup_outcome, next_outcome, next_verdict, opened, size_good, traced, worst_outcome, write_verdict, wrote}
 use Rattle.rule.specs.Numbers.{most, most_base, record_width, slot_width, tally_most, ticks, word}
 use Rattle.rule.specs.Files.{Finds, FirstBroken, meets}
 use Rattle.rule.specs.Room.{bounded, edition_good, laid, signed, gaps_good, roomy, runs_allowed, sound, table_of}
@@ -50,6 +50,7 @@ use Rattle.drawing.specs.Call.{drawn_in, picture_verdict}
 use Rattle.storage.proofs.Filing.{load_accepts, load_leaves, loads_needed}
 use Rattle.rule.proofs.Whole.{by_test}
 use Rattle.answered.specs.Answered.{Answered, Demand1, Lawful, Row, base_named, file_rows, first_of, late_rows, lookup_rows, most_steps, named_by, next_rows, open_rows, outside, outside_byte, picture_rows, recording_rows, refusing, said, size_outside, slots_needed, said_drawn, said_found, said_measured, said_sought, said_written, search_rows, worst_rows, write_rows}
+use Rattle.std.specs.Prelude.{Ok, Err}
 
 -- ---- a call's checks and the table's rows
 
@@ -62,9 +63,9 @@ said_checks [] v rows e = e
 said_checks ((true, r) ∷ l) v rows e = refl
 said_checks ((false, r) ∷ l) v rows e = said_checks l v rows e
 
-said_all : {A : Type 0} (l : List Check) (a : A) → said (checked l (accepted a)) ≡ first_of (map as_row l ++ [])
+said_all : {A : Type 0} (l : List Check) (a : A) → said (checked l (Ok a)) ≡ first_of (map as_row l ++ [])
 unfolding said first_of
-said_all l a = said_checks l (accepted a) [] refl
+said_all l a = said_checks l (Ok a) [] refl
 
 -- ---- the conditions, as the definitions say them and as document 01 does
 
@@ -171,24 +172,24 @@ given r q e = cc
 module _ (g : Settings) (l : List ℤ) where
   answered : (v : Verdict Table) (rows : List Row) → said v ≡ first_of rows → let o = traced g l v in Answered (said o.0) rows l o.1
   unfolding said traced
-  answered (refused r) rows e = record { exactly = e; untouched = λ q f. refl }
-  answered (accepted t) rows e = record { exactly = e; untouched = λ q f. absurd (none_given q f) }
+  answered (Err r) rows e = record { exactly = e; untouched = λ q f. refl }
+  answered (Ok t) rows e = record { exactly = e; untouched = λ q f. absurd (none_given q f) }
 
   on_and_on : (fs : List Frame) (v : Verdict Table) (rows : List Row) → said v ≡ first_of rows → let t = traced g l v in let o = gone_on fs t.0 t.1 in Answered (said o.0) rows l o.1
   unfolding said traced gone_on
-  on_and_on fs (refused r) rows e = record { exactly = e; untouched = λ q f. refl }
-  on_and_on fs (accepted t) rows e = record { exactly = e; untouched = λ q f. absurd (none_given q f) }
+  on_and_on fs (Err r) rows e = record { exactly = e; untouched = λ q f. refl }
+  on_and_on fs (Ok t) rows e = record { exactly = e; untouched = λ q f. absurd (none_given q f) }
 
 written : {A : Type 0} (form : Table → List A) (out : List A) (v : Verdict Table) (rows : List Row) → said v ≡ first_of rows
     → let o = wrote form out v in Answered (said_written o.0) rows out o.1
 unfolding said said_written wrote
-written form out (refused r) rows e = record { exactly = e; untouched = λ q f. refl }
-written form out (accepted t) rows e = record { exactly = e; untouched = λ q f. absurd (none_given q f) }
+written form out (Err r) rows e = record { exactly = e; untouched = λ q f. refl }
+written form out (Ok t) rows e = record { exactly = e; untouched = λ q f. absurd (none_given q f) }
 
 pictured : (out : List ℕ) (v : Verdict (List ℕ)) (rows : List Row) → said v ≡ first_of rows → let o = drawn_in out v in Answered (said_drawn o.0) rows out o.1
 unfolding said said_drawn drawn_in
-pictured out (refused r) rows e = record { exactly = e; untouched = λ q f. refl }
-pictured out (accepted p) rows e = record { exactly = e; untouched = λ q f. absurd (none_given q f) }
+pictured out (Err r) rows e = record { exactly = e; untouched = λ q f. refl }
+pictured out (Ok p) rows e = record { exactly = e; untouched = λ q f. absurd (none_given q f) }
 
 -- ---- each call's chain
 
@@ -231,13 +232,13 @@ search_said s l first last bar =
     (λ fit. rw fit)
 
 worst_said : (s : State) (l : List ℤ) → said_measured (worst_outcome s l) ≡ first_of (worst_rows s l)
-unfolding worst_outcome measured checked first_of said_measured
+unfolding worst_outcome checked first_of said_measured
 worst_said s l = by_test (sound s l) (λ fit. rw fit) (λ fit. rw fit)
 
 told : (t : Tally) (used : ℕ) (o : Verdict State) (r : ℕ × ℕ) → said o ≡ some r → counted t used o ≡ record { accepted = t.accepted; refused = min (t.refused + 1) tally_most; merges = t.merges }
 unfolding said counted grown
-told t used (refused q) r e = refl
-told t used (accepted s) r e = absurd (none_given r e)
+told t used (Err q) r e = refl
+told t used (Ok s) r e = absurd (none_given r e)
 
 -- ---- load, and 8's place
 
@@ -309,11 +310,11 @@ module _ (g : Settings) (l : List ℤ) where
   abbrev Past : Verdict Table → Type 0
   Past v = drop (slot_width * needed g) (traced g l v).1 ≡ drop (slot_width * needed g) l
 
-  refused_past : (r : Refusal) → Past (refused r)
+  refused_past : (r : Refusal) → Past (Err r)
   unfolding traced
   refused_past r = refl
 
-  accepted_past : (t : Table) → length t ≤ needed g → Past (accepted t)
+  accepted_past : (t : Table) → length t ≤ needed g → Past (Ok t)
   unfolding traced
   accepted_past t h = drop_laid (needed g) t l h (needed g) (omega arith)
 
@@ -321,7 +322,7 @@ module _ (g : Settings) (l : List ℤ) where
   abbrev Still : State → List ℤ → Type 0
   Still s m = (s.settings ≡ g) × (drop (slot_width * needed g) m ≡ drop (slot_width * needed g) l)
 
-  past_still : (v : Verdict Table) → Past v → {s : State} {m : List ℤ} → traced g l v ≡ (accepted s, m) → Still s m
+  past_still : (v : Verdict Table) → Past v → {s : State} {m : List ℤ} → traced g l v ≡ (Ok s, m) → Still s m
   past_still v p e = (accepted_settings g l v e, ap (λ (o : Verdict State × List ℤ). drop (slot_width * needed g) o.1) (sym e) ∙ p)
 
 named_past : (g : Opening) (l m : List ℤ) → drop (slot_width * needed (kept g)) m ≡ drop (slot_width * needed (kept g)) l → drop (4 * slots_needed (named_by g)) m ≡ drop (4 * slots_needed (named_by g)) l
@@ -331,36 +332,36 @@ named_past g l m e = subst (λ (n : ℕ). drop (slot_width * n) m ≡ drop (slot
 read_past : (s : State) (l m : List ℤ) → drop (slot_width * needed s.settings) m ≡ drop (slot_width * needed s.settings) l → drop (4 * slots_needed s.settings) m ≡ drop (4 * slots_needed s.settings) l
 read_past s l m e = subst (λ (n : ℕ). drop (slot_width * n) m ≡ drop (slot_width * n) l) (ap (λ (n : ℕ). n + 1) (limit_is s.settings.kind s.settings.base s.settings.gaps)) e
 
-taken_past : (s : State) (l : List ℤ) (at k tick : ℕ) (v : ℤ) → Ready s l at k tick v → signed v ≡ true → tick < word → Past s.settings l (accepted (accept s.settings (table_of s l) tick v))
+taken_past : (s : State) (l : List ℤ) (at k tick : ℕ) (v : ℤ) → Ready s l at k tick v → signed v ≡ true → tick < word → Past s.settings l (Ok (accept s.settings (table_of s l) tick v))
 taken_past s l at k tick v r range small =
     accepted_past s.settings l _ (omega (arith, taken_short s l at k tick v r (signed_fits v range) small, used_needed s l (sound_facts s l r.fit)))
 
 load_past : (g : Opening) (file : List ℕ) (l : List ℤ) (o : Verdict State × List ℤ) → loaded g file l ≡ o → drop (slot_width * needed (kept g)) o.1 ≡ drop (slot_width * needed (kept g)) l
-load_past g file l (refused r, m) e = ap (drop (slot_width * needed (kept g))) (traced_refused (kept g) l (load_verdict g file l) r m e)
-load_past g file l (accepted t, m) e =
+load_past g file l (Err r, m) e = ap (drop (slot_width * needed (kept g))) (traced_refused (kept g) l (load_verdict g file l) r m e)
+load_past g file l (Ok t, m) e =
     let a = load_accepts g file l t (ap (λ (o : Verdict State × List ℤ). o.0) e) in
     let left : m ≡ laid (needed (kept g)) (records_of file) l = ap (λ (o : Verdict State × List ℤ). o.1) (sym e ∙ load_leaves g file l a.0 a.1) in
     ap (drop (slot_width * needed (kept g))) left ∙ drop_laid (needed (kept g)) (records_of file) l (omega (arith, loads_needed (kept g) file a.1)) (needed (kept g)) (omega arith)
 
-open_past : (g : Opening) (l : List ℤ) → Past (kept g) l (admitted g l (accepted []))
+open_past : (g : Opening) (l : List ℤ) → Past (kept g) l (admitted g l (Ok []))
 open_past g l = open_either g l (Past (kept g) l) (refused_past (kept g) l) (λ _. accepted_past (kept g) l [] (omega arith))
 
 late_past : (s : State) (l : List ℤ) (tick : ℕ) (v : ℤ) → signed v ≡ true → Past s.settings l (late_verdict s l tick v)
 late_past s l tick v range = late_either s l v (Past s.settings l) (refused_past s.settings l) tick (λ _ _ r small. taken_past s l _ _ tick v r range small)
 
 -- along a replay the settings stay, and with them the number of slots
-still : (g : Settings) (l : List ℤ) (s t : State) (m n : List ℤ) (tick : ℕ) (v : ℤ) → signed v ≡ true → late_outcome s m tick v ≡ (accepted t, n) → Still g l s m → Still g l t n
+still : (g : Settings) (l : List ℤ) (s t : State) (m n : List ℤ) (tick : ℕ) (v : ℤ) → signed v ≡ true → late_outcome s m tick v ≡ (Ok t, n) → Still g l s m → Still g l t n
 still g l s t m n tick v range e p =
     let q : Still g m t n = subst (λ (h : Settings). Still h m t n) p.0 (past_still s.settings m (late_verdict s m tick v) (late_past s m tick v range) e) in
     (q.0, q.1 ∙ p.1)
 
 replay_past : (size : Size) (gaps edition : ℕ) (recording : List ℕ) (l : List ℤ) (o : Verdict Course × List ℤ) → replay_outcome size gaps edition recording l ≡ o
     → let g = kept (late_opening size gaps edition) in drop (slot_width * needed g) o.1 ≡ drop (slot_width * needed g) l
-replay_past size gaps edition recording l (refused r, m) e = ap (drop (slot_width * needed (kept (late_opening size gaps edition)))) (replay_refused size gaps edition recording l e)
-replay_past size gaps edition recording l (accepted c, m) e =
+replay_past size gaps edition recording l (Err r, m) e = ap (drop (slot_width * needed (kept (late_opening size gaps edition)))) (replay_refused size gaps edition recording l e)
+replay_past size gaps edition recording l (Ok c, m) e =
     let g : Opening = late_opening size gaps edition in
     (replay_keeps (λ s n ws. Still (kept g) l s n) (λ s t m n ws w. still (kept g) l s t m n (nat_abs w.tick) w.value) size gaps edition recording l
-    (λ s n. past_still (kept g) l (admitted g l (accepted [])) (open_past g l)) e).1
+    (λ s n. past_still (kept g) l (admitted g l (Ok [])) (open_past g l)) e).1
 
 -- ---- every good C is taken
 
@@ -375,7 +376,7 @@ unfolding base_of base_named said traced
 any_base k c gaps edition l either low high fine long =
     let o : Opening = record { kind = k; size = Base c; gaps = gaps; edition = edition } in
     let granted : Granted (kept o) l = record { edition = one_of_two edition either; base = in_bounds most_base c (low, high); gaps = gaps_fine k gaps fine; long = omega (arith, long, needed_is o) } in
-    ap (λ (v : Verdict Table). said (traced (kept o) l v).0) (grants o l granted (accepted []))
+    ap (λ (v : Verdict Table). said (traced (kept o) l v).0) (grants o l granted (Ok []))
 
 -- ---- past the needed slots
 
@@ -388,7 +389,7 @@ past_late s l tick v range = read_past s l _ (late_past s l tick v range)
 -- of many readings, where it is so of one, and the settings stay
 module _ {A : Type 0} (call : Call A) (Fits : A → Type 0)
     (past : (s : State) (l : List ℤ) (v : A) → Fits v → drop (4 * slots_needed s.settings) (call s l v).1 ≡ drop (4 * slots_needed s.settings) l)
-    (stay : (s t : State) (l m : List ℤ) (v : A) → call s l v ≡ (accepted t, m) → t.settings ≡ s.settings) where
+    (stay : (s t : State) (l m : List ℤ) (v : A) → call s l v ≡ (Ok t, m) → t.settings ≡ s.settings) where
   abbrev ManyPast : State → List ℤ → List A → Fed → Type 0
   ManyPast s l vs f = ((v : A) → Memᴰ v vs → Fits v) → drop (4 * slots_needed s.settings) f.room ≡ drop (4 * slots_needed s.settings) l
 
@@ -407,7 +408,7 @@ module _ {A : Type 0} (call : Call A) (Fits : A → Type 0)
 pub demand1 : Demand1
 unfolding next_verdict late_verdict lookup_outcome write_verdict replay_verdict ruled said first_of late base_named
 demand1 = record {
-  opens = λ g l. answered (kept g) l (admitted g l (accepted [])) (open_rows g l) (admits g l (accepted []) [] refl);
+  opens = λ g l. answered (kept g) l (admitted g l (Ok [])) (open_rows g l) (admits g l (Ok []) [] refl);
   nexts = λ s l v. answered s.settings l (next_verdict s l v) (next_rows s l) (said_all _ _);
   lates = λ s l tick v. answered s.settings l (late_verdict s l tick v) (late_rows s l tick v)
       (said_all _ _ ∙ by_test (late s.settings.kind) (λ h. rw (accepted_runs s.settings (table_of s l) tick v h)) (λ h. rw h));

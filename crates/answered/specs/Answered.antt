@@ -1,5 +1,5 @@
 -- Demand 1: every call ends with its answer, or with one refusal of the table, given exactly when the table says.
-use Rattle.std.specs.Prelude.{ℕ, ◌+◌, ◌*◌, ◌/◌, ◌%◌, ◌≤◌, ◌<◌, min, ◌≡◌, Bool, true, false, cond, not, ◌&&◌, ◌||◌, List, [], ◌∷◌, ◌++◌, ◌⊎◌, eqb, leb, ltb, ℤ, drop, length}
+use Rattle.std.specs.Prelude.{ℕ, ◌+◌, ◌*◌, ◌/◌, ◌%◌, ◌≤◌, ◌<◌, min, ◌≡◌, Bool, true, false, cond, not, ◌&&◌, ◌||◌, List, [], ◌∷◌, ◌++◌, ◌⊎◌, eqb, leb, ltb, ℤ, drop, length, Ok, Err, None, Some}
 use Rattle.std.proofs.Math.Option.{Option, some, none}
 use Rattle.std.specs.Int.Signed.{le_z}
 use Rattle.rule.specs.declared.Bucket.{Bucket}
@@ -12,23 +12,20 @@ use Rattle.rule.specs.declared.Size.{Size}
 use Rattle.rule.specs.declared.Size.TheVariants.{Steps, Base}
 use Rattle.rule.specs.declared.State.{State}
 use Rattle.rule.specs.declared.Tally.{Tally}
-use Rattle.rule.specs.declared.Written.{Written}
 use Rattle.rule.specs.Answers.{number, place}
 use Rattle.rule.specs.Bytes.{records_of}
-use Rattle.rule.specs.Calls.{Verdict, accepted, counted, is_held, late, late_outcome, loaded, lookup_outcome, next_outcome, opened, refused, row_outcome, save_outcome, worst_outcome}
+use Rattle.rule.specs.Calls.{Verdict, counted, is_held, late, late_outcome, loaded, lookup_outcome, next_outcome, opened, row_outcome, save_outcome, worst_outcome}
 use Rattle.rule.specs.Files.{FirstBroken, meets}
 use Rattle.rule.specs.Room.{all_of, signed, sound, table_of}
 use Rattle.rule.specs.Rules.{first_fault, place_or, ruled, rules}
 use Rattle.rule.specs.Table.{accept, holding, next_tick, runs}
-use Rattle.over.specs.declared.Sought.{Sought}
 use Rattle.over.specs.Search.{search_outcome}
 use Rattle.logger.specs.Replay.{replay_outcome}
 use Rattle.series.specs.Promise.{AllSigned, AllTimed}
 use Rattle.series.specs.Series.{late_many, next_many}
-use Rattle.drawing.specs.declared.Drawn.{Drawn}
 use Rattle.drawing.specs.Call.{picture_outcome}
 use Rattle.drawing.specs.Picture.{picture}
-use Rattle.rule.specs.declared.Measured.{Measured}
+use Rattle.over.specs.Hits.{Searched}
 
 -- ---- the table, call by call, in the orders of document 01, and for the picture in that of docs/PICTURE.md
 -- The numbers stand here as these write them and not by the names that the definitions have for them, so that a wrong number there does not pass.
@@ -151,29 +148,29 @@ picture_rows s l caption places =
 -- ---- what a call says: a refusal's number and place, or none
 
 unfoldable pub said : {A : Type 0} → Verdict A → Option (ℕ × ℕ)
-said (refused r) = some (number r, place r)
-said (accepted a) = none
+said (Err r) = some (number r, place r)
+said (Ok a) = none
 
-unfoldable pub said_found : Found → Option (ℕ × ℕ)
-said_found (Found.Refused r) = some (number r, place r)
-said_found (Found.Level level error least largest) = none
+unfoldable pub said_found : Verdict Found → Option (ℕ × ℕ)
+said_found (Err r) = some (number r, place r)
+said_found (Ok f) = none
 
-unfoldable pub said_written : Written → Option (ℕ × ℕ)
-said_written (Written.Refused r) = some (number r, place r)
-said_written (Written.Buckets n) = none
+unfoldable pub said_written : Verdict ℕ → Option (ℕ × ℕ)
+said_written (Err r) = some (number r, place r)
+said_written (Ok n) = none
 
-unfoldable pub said_sought : Sought → Option (ℕ × ℕ)
-said_sought (Sought.Refused r) = some (number r, place r)
-said_sought (Sought.At index start) = none
-said_sought Sought.Nowhere = none
+unfoldable pub said_sought : Searched → Option (ℕ × ℕ)
+said_sought (Err r) = some (number r, place r)
+said_sought (Ok (Some h)) = none
+said_sought (Ok None) = none
 
-unfoldable pub said_measured : Measured → Option (ℕ × ℕ)
-said_measured (Measured.Refused r) = some (number r, place r)
-said_measured (Measured.Error e) = none
+unfoldable pub said_measured : Verdict ℕ → Option (ℕ × ℕ)
+said_measured (Err r) = some (number r, place r)
+said_measured (Ok e) = none
 
-unfoldable pub said_drawn : Drawn → Option (ℕ × ℕ)
-said_drawn (Drawn.Refused r) = some (number r, place r)
-said_drawn (Drawn.Bytes n) = none
+unfoldable pub said_drawn : Verdict ℕ → Option (ℕ × ℕ)
+said_drawn (Err r) = some (number r, place r)
+said_drawn (Ok n) = none
 
 -- ---- the record rules
 

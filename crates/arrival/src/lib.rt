@@ -15,11 +15,12 @@ use settings::is_late;
 use slots::read;
 use sound::sound;
 
-// A reading's refusal, or its place among the buckets, the runs there are with it, and its tick.
+// Where a reading goes: its place among the buckets, the runs there are with it, and its tick.
 #[derive(Clone, Copy)]
-pub enum Arrival {
-    Refused(Refusal),
-    Goes { at: usize, runs: usize, tick: u32 },
+pub struct Arrival {
+    pub at: usize,
+    pub runs: usize,
+    pub tick: u32,
 }
 
 // The end of the last bucket, 0 where there is none.
@@ -34,67 +35,67 @@ pub(crate) fn next_tick(room: &[i64], used: usize) -> usize
 }
 
 // The next reading of a trace in order that is known to be sound.
-pub fn following(s: State, room: &[i64]) -> Arrival
+pub fn following(s: State, room: &[i64]) -> Result<Arrival, Refusal>
     requires { (sound s room.now ≡ true) × (late s.settings.kind ≡ false) }
     ensures { result ≡ next_arrival s room.now }
 {
     let tick = next_tick(room, s.used);
     if TICKS <= tick {
-        return Arrival::Refused(Refusal::Tick);
+        return Err(Refusal::Tick);
     }
-    Arrival::Goes {
+    Ok(Arrival {
         at: s.used,
         runs: 1,
         tick: tick as u32,
-    }
+    })
 }
 
 // The next reading of a trace in order.
-pub fn next(s: State, room: &[i64]) -> Arrival
+pub fn next(s: State, room: &[i64]) -> Result<Arrival, Refusal>
     ensures { result ≡ next_arrival s room.now }
 {
     if !sound(s, room) {
-        return Arrival::Refused(Refusal::Unsound);
+        return Err(Refusal::Unsound);
     }
     let settings = s.settings;
     let kind = settings.kind;
     if is_late(kind) {
-        return Arrival::Refused(Refusal::Kind);
+        return Err(Refusal::Kind);
     }
     following(s, room)
 }
 
 // A reading at its tick of a late trace that is known to be sound. Its value plays no part.
-pub fn placed(s: State, room: &[i64], tick: u32) -> Arrival
+pub fn placed(s: State, room: &[i64], tick: u32) -> Result<Arrival, Refusal>
     requires { (sound s room.now ≡ true) × (late s.settings.kind ≡ true) }
     ensures { (v : ℤ) → result ≡ late_arrival s room.now tick v }
 {
     if TICKS <= tick as usize {
-        return Arrival::Refused(Refusal::Tick);
+        return Err(Refusal::Tick);
     }
     let at = find(room, s.used, tick);
     if held(room, s.used, at, tick) {
-        return Arrival::Refused(Refusal::Taken);
+        return Err(Refusal::Taken);
     }
     let runs = s.runs + 1 - joins(room, s.used, at, tick);
     let settings = s.settings;
     if settings.gaps < runs {
-        return Arrival::Refused(Refusal::Runs);
+        return Err(Refusal::Runs);
     }
-    Arrival::Goes { at, runs, tick }
+    Ok(Arrival { at, runs, tick })
 }
 
 // A reading at its tick, in any order, of a late trace.
-pub fn late(s: State, room: &[i64], tick: u32) -> Arrival
+pub fn late(s: State, room: &[i64], tick: u32) -> Result<Arrival, Refusal>
     ensures { (v : ℤ) → result ≡ late_arrival s room.now tick v }
 {
     if !sound(s, room) {
-        return Arrival::Refused(Refusal::Unsound);
+        return Err(Refusal::Unsound);
     }
     let settings = s.settings;
     let kind = settings.kind;
     if !is_late(kind) {
-        return Arrival::Refused(Refusal::Kind);
+        return Err(Refusal::Kind);
     }
     placed(s, room, tick)
 }

@@ -7,7 +7,7 @@ ghost use Rattle.listing.specs.Feeding.{fresh, has_ended};
 
 use listing::{EDITION, Feeding, Stage};
 use rule::Size;
-use trace::{Answer, Trace};
+use trace::Trace;
 
 // B where no line names it. Nothing else has a default.
 const DEFAULT_STEPS: usize = 64;
@@ -32,9 +32,5 @@ pub fn begin(room: &mut [i64]) -> Feeding
 pub fn ended(f: Feeding) -> bool
     ensures { result ≡ has_ended f.last }
 {
-    let last = f.last;
-    match last {
-        Answer::Accepted(_) => false,
-        Answer::Refused(_) => true,
-    }
+    f.last.is_err()
 }

@@ -29,10 +29,8 @@ pub fn level(b: Bucket) -> i32
 pub fn error(b: Bucket) -> u32
     ensures { result ≡ error b }
 {
-    let l = middle(b.least, b.largest);
-    let above = distance(b.largest, l);
-    let below = distance(l, b.least);
-    if above <= below { below } else { above }
+    let l = level(b);
+    distance(b.largest, l).max(distance(l, b.least))
 }
 
 // The bucket of the ticks of two neighbours.
@@ -58,5 +56,5 @@ pub fn union_spread(b: Bucket, next: Bucket) -> u32
 pub fn neighbours(b: Bucket, next: Bucket) -> bool
     ensures { result ≡ neighbours b next }
 {
-    b.start as usize + b.count as usize == next.start as usize
+    end(b) == next.start as usize
 }

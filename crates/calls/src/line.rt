@@ -1,151 +1,199 @@
-// A script read byte by byte. A word or a name has at most eight letters, so it is one number: its bytes, the first one highest.
-ghost use Rattle.std.specs.Prelude.{◌<◌};
+// A script read byte by byte: a line's word and then its numbers, by their names.
+use fields::{Fields, Named, fields_of, opening_of, trace_of};
+use rule::Opening;
+use trace::Trace;
 
-pub(crate) const OPEN: u64 = 0x6f70656e;
-
-pub(crate) const NEXT: u64 = 0x6e657874;
-
-pub(crate) const LATE: u64 = 0x6c617465;
-
-pub(crate) const LOAD: u64 = 0x6c6f6164;
-
-pub(crate) const STATE: u64 = 0x7374617465;
-
-pub(crate) const LOOKUP: u64 = 0x6c6f6f6b7570;
-
-pub(crate) const SAVE: u64 = 0x73617665;
-
-pub(crate) const WORST: u64 = 0x776f727374;
-
-pub(crate) const NEXT_MANY: u64 = 0x6e6578746d616e79;
-
-pub(crate) const LATE_MANY: u64 = 0x6c6174656d616e79;
-
-pub(crate) const READING: u64 = 0x72656164696e67;
-
-pub(crate) const SET: u64 = 0x736574;
-
-pub(crate) const BYTE: u64 = 0x62797465;
-
-pub(crate) const TAKE: u64 = 0x74616b65;
-
-pub(crate) const ROOM: u64 = 0x726f6f6d;
-
-pub(crate) const FILE: u64 = 0x66696c65;
-
-// The numbers of a command by the places of their names: first six fields of a state, whose seventh is the edition, last one that is no name's.
-pub(crate) const NUMBERS: usize = 6;
-
-pub(crate) const BYTES: usize = 7;
-
-pub(crate) const AT: usize = 8;
-
-pub(crate) const TICK: usize = 9;
-
-pub(crate) const VALUE: usize = 10;
-
-pub(crate) const SIZE: usize = 11;
-
-pub(crate) const BY: usize = 12;
-
-pub(crate) const FROM: usize = 13;
-
-pub(crate) const TICKS: usize = 14;
-
-pub(crate) const VALUES: usize = 15;
-
-pub(crate) const EDITION: usize = 16;
-
-// What is read so far of a line: its word, the name of the number at hand, letters of either, and the number.
+// What a line asks.
 #[derive(Clone, Copy)]
-pub struct Reading {
-    pub word: u64,
-    pub name: u64,
-    pub letters: u64,
-    pub number: u64,
-    pub negative: bool,
+pub enum Word {
+    Open,
+    Next,
+    Late,
+    Load,
+    State,
+    Lookup,
+    Save,
+    Worst,
+    NextMany,
+    LateMany,
+    Reading,
+    Set,
+    Byte,
+    Take,
+    Room,
+    File,
+    Other,
 }
 
-pub(crate) fn nothing() -> Reading {
-    Reading {
-        word: 0,
-        name: 0,
-        letters: 0,
-        number: 0,
-        negative: false,
+fn word_of(letters: [u8; 8]) -> Word {
+    match &letters {
+        b"\0\0\0\0open" => Word::Open,
+        b"\0\0\0\0next" => Word::Next,
+        b"\0\0\0\0late" => Word::Late,
+        b"\0\0\0\0load" => Word::Load,
+        b"\0\0\0state" => Word::State,
+        b"\0\0lookup" => Word::Lookup,
+        b"\0\0\0\0save" => Word::Save,
+        b"\0\0\0worst" => Word::Worst,
+        b"nextmany" => Word::NextMany,
+        b"latemany" => Word::LateMany,
+        b"\0reading" => Word::Reading,
+        b"\0\0\0\0\0set" => Word::Set,
+        b"\0\0\0\0byte" => Word::Byte,
+        b"\0\0\0\0take" => Word::Take,
+        b"\0\0\0\0room" => Word::Room,
+        b"\0\0\0\0file" => Word::File,
+        _ => Word::Other,
     }
 }
 
-fn place(name: u64) -> usize
-    ensures { result < 18 }
-{
-    match name {
-        0x6b696e64 => 0,
-        0x62617365 => 1,
-        0x67617073 => 2,
-        0x75736564 => 3,
-        0x72756e73 => 4,
-        0x72656164696e6773 => 5,
-        0x6e756d62657273 => NUMBERS,
-        0x6279746573 => BYTES,
-        0x6174 => AT,
-        0x7469636b => TICK,
-        0x76616c7565 => VALUE,
-        0x73697a65 => SIZE,
-        0x6279 => BY,
-        0x66726f6d => FROM,
-        0x7469636b73 => TICKS,
-        0x76616c756573 => VALUES,
-        0x65646974696f6e => EDITION,
-        _ => 17,
-    }
+// The numbers of a command.
+#[derive(Clone, Copy)]
+pub struct Given {
+    pub state: Fields,
+    pub size: usize,
+    pub by: usize,
+    pub numbers: usize,
+    pub bytes: usize,
+    pub at: usize,
+    pub from: usize,
+    pub ticks: usize,
+    pub values: usize,
+    pub tick: u32,
+    pub value: u64,
 }
 
-fn with_digit(number: u64, byte: u8) -> u64 {
-    let tenfold = std::num::wrapping_add_u64(number << 3, number << 1);
-    std::num::wrapping_add_u64(tenfold, std::num::wrapping_sub_u64(byte as u64, 48))
+fn low(number: u64) -> u32 {
+    (number % 4294967296) as u32
 }
 
-impl Reading {
-    pub(crate) fn value(self) -> u64 {
-        if self.negative {
-            std::num::wrapping_sub_u64(0, self.number)
-        } else {
-            self.number
+impl Given {
+    // Names that are not given stand for the state at hand, any other for 0.
+    fn at_hand(trace: Trace) -> Given {
+        Given {
+            state: fields_of(trace.state),
+            size: 0,
+            by: 0,
+            numbers: 0,
+            bytes: 0,
+            at: 0,
+            from: 0,
+            ticks: 0,
+            values: 0,
+            tick: 0,
+            value: 0,
         }
+    }
+
+    fn with(self, name: [u8; 8], number: u64) -> Given {
+        let mut next = self;
+        let count = number as usize;
+        match &name {
+            b"\0\0\0\0kind" => next.state.kind = count,
+            b"\0\0\0\0base" => next.state.base = count,
+            b"\0\0\0\0gaps" => next.state.gaps = count,
+            b"\0\0\0\0used" => next.state.used = count,
+            b"\0\0\0\0runs" => next.state.runs = count,
+            b"readings" => next.state.readings = count,
+            b"\0edition" => next.state.edition = count,
+            b"\0\0\0\0size" => next.size = count,
+            b"\0\0\0\0\0\0by" => next.by = count,
+            b"\0numbers" => next.numbers = count,
+            b"\0\0\0bytes" => next.bytes = count,
+            b"\0\0\0\0\0\0at" => next.at = count,
+            b"\0\0\0\0from" => next.from = count,
+            b"\0\0\0ticks" => next.ticks = count,
+            b"\0\0values" => next.values = count,
+            b"\0\0\0\0tick" => next.tick = low(number),
+            b"\0\0\0value" => next.value = number,
+            _ => {}
+        }
+        next
+    }
+
+    pub(crate) fn opening(self) -> Opening {
+        opening_of(Named {
+            kind: self.state.kind,
+            size: self.size,
+            gaps: self.state.gaps,
+            by: self.by,
+            edition: self.state.edition,
+        })
+    }
+
+    pub(crate) fn trace(self) -> Trace {
+        trace_of(self.state)
+    }
+
+    pub(crate) fn reading(self) -> i32 {
+        low(self.value).cast_signed()
+    }
+}
+
+// What is read so far of a line: its word, the numbers given, and letters, name, number and sign of what is at hand. Of letters the last eight are
+// kept, with zeros before fewer.
+#[derive(Clone, Copy)]
+pub struct Line {
+    word: [u8; 8],
+    pub given: Given,
+    letters: [u8; 8],
+    name: [u8; 8],
+    number: u64,
+    negative: bool,
+}
+
+impl Line {
+    pub(crate) fn begun(trace: Trace) -> Line {
+        Line {
+            word: [0; 8],
+            given: Given::at_hand(trace),
+            letters: [0; 8],
+            name: [0; 8],
+            number: 0,
+            negative: false,
+        }
+    }
+
+    pub(crate) fn word(self) -> Word {
+        word_of(self.word)
     }
 
     // Behind a word or a number.
-    pub(crate) fn ended(self) -> Reading {
-        let mut next = nothing();
-        next.word = if self.word == 0 {
-            self.letters
+    pub(crate) fn ended(self) -> Line {
+        let number = if self.negative {
+            self.number.wrapping_neg()
         } else {
-            self.word
+            self.number
         };
-        next
+        Line {
+            word: if self.word == [0; 8] {
+                self.letters
+            } else {
+                self.word
+            },
+            given: self.given.with(self.name, number),
+            letters: [0; 8],
+            name: [0; 8],
+            number: 0,
+            negative: false,
+        }
     }
 
     // Within a word, a name or a number.
-    pub(crate) fn with(self, byte: u8) -> Reading {
+    pub(crate) fn with(self, byte: u8) -> Line {
         let mut next = self;
-        if byte == 61 {
-            next.name = self.letters;
-            return next;
-        }
-        if byte == 45 {
-            next.negative = true;
-            return next;
-        }
-        if self.name == 0 {
-            next.letters = self.letters << 8 | byte as u64;
-        } else {
-            next.number = with_digit(self.number, byte);
+        match byte {
+            b'=' => next.name = self.letters,
+            b'-' => next.negative = true,
+            _ if self.name == [0; 8] => {
+                next.letters.rotate_left(1);
+                next.letters[7] = byte;
+            }
+            _ => {
+                let digit = u64::from(byte).wrapping_sub(48);
+                next.number = self.number.wrapping_mul(10).wrapping_add(digit);
+            }
         }
         next
     }
-}
-
-pub(crate) fn put(given: &mut [u64; 18], reading: Reading) {
-    given[place(reading.name)] = reading.value();
 }

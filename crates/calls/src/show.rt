@@ -1,8 +1,8 @@
 // The lines that are written: what a call answers, and the checksum of what it was lent.
-use crate::line;
-use many::{Ending, Progress};
-use rule::{Found, Kind, Measured, Refusal, Written};
-use trace::{Answer, Trace};
+use fields::fields_of;
+use many::Progress;
+use rule::{Found, Refusal};
+use trace::Trace;
 
 // What cannot be written is left out, and the script goes on.
 pub(crate) fn text(rt: &impl Print, text: &str) {
@@ -26,44 +26,23 @@ fn refused(rt: &impl Print, refusal: Refusal) {
     unsigned(rt, refusal::place(refusal) as u64);
 }
 
-pub(crate) fn number_of(kind: Kind) -> usize {
-    match kind {
-        Kind::InOrder => 0,
-        Kind::Late => 1,
-    }
-}
-
 fn state(rt: &impl Print, trace: Trace) {
-    let state = trace.state;
-    let settings = state.settings;
-    let kind = settings.kind;
-    unsigned(rt, number_of(kind) as u64);
-    unsigned(rt, settings.base as u64);
-    unsigned(rt, settings.gaps as u64);
-    unsigned(rt, state.used as u64);
-    unsigned(rt, state.runs as u64);
-    unsigned(rt, state.readings as u64);
-    unsigned(rt, settings.edition as u64);
-}
-
-fn name(rt: &impl Print, word: u64) {
-    match word {
-        line::OPEN => text(rt, "open"),
-        line::NEXT => text(rt, "next"),
-        line::LATE => text(rt, "late"),
-        _ => text(rt, "load"),
-    }
+    let f = fields_of(trace.state);
+    let _ = print!(rt;
+        " {} {} {} {} {} {} {}",
+        f.kind, f.base, f.gaps, f.used, f.runs, f.readings, f.edition
+    );
 }
 
 // Where it is refused, the trace is the given one.
-pub(crate) fn answer(rt: &impl Print, word: u64, given: Trace, answer: Answer) {
-    name(rt, word);
+pub(crate) fn answer(rt: &impl Print, name: &str, given: Trace, answer: Result<Trace, Refusal>) {
+    text(rt, name);
     match answer {
-        Answer::Accepted(trace) => {
+        Ok(trace) => {
             text(rt, " 0 0");
             state(rt, trace);
         }
-        Answer::Refused(refusal) => {
+        Err(refusal) => {
             refused(rt, refusal);
             state(rt, given);
         }
@@ -74,57 +53,52 @@ pub(crate) fn fed(rt: &impl Print, name: &str, progress: Progress) {
     text(rt, name);
     let ending = progress.ending;
     match ending {
-        Ending::Whole => text(rt, " 0 0"),
-        Ending::Refused(refusal) => refused(rt, refusal),
+        Ok(()) => text(rt, " 0 0"),
+        Err(refusal) => refused(rt, refusal),
     }
     state(rt, progress.trace);
     unsigned(rt, progress.accepted as u64);
 }
 
-pub(crate) fn found(rt: &impl Print, found: Found) {
+pub(crate) fn found(rt: &impl Print, found: Result<Found, Refusal>) {
     text(rt, "lookup");
     match found {
-        Found::Level {
-            level,
-            error,
-            least,
-            largest,
-        } => {
+        Ok(found) => {
             text(rt, " 0 0");
-            signed(rt, level);
-            unsigned(rt, error as u64);
-            signed(rt, least);
-            signed(rt, largest);
+            signed(rt, found.level);
+            unsigned(rt, found.error as u64);
+            signed(rt, found.least);
+            signed(rt, found.largest);
         }
-        Found::Refused(refusal) => {
+        Err(refusal) => {
             refused(rt, refusal);
             text(rt, " 0 0 0 0");
         }
     }
 }
 
-pub(crate) fn worst(rt: &impl Print, measured: Measured) {
+pub(crate) fn worst(rt: &impl Print, measured: Result<u32, Refusal>) {
     text(rt, "worst");
     match measured {
-        Measured::Error(error) => {
+        Ok(error) => {
             text(rt, " 0 0");
             unsigned(rt, error as u64);
         }
-        Measured::Refused(refusal) => {
+        Err(refusal) => {
             refused(rt, refusal);
             text(rt, " 0");
         }
     }
 }
 
-pub(crate) fn written(rt: &impl Print, written: Written) {
+pub(crate) fn written(rt: &impl Print, written: Result<usize, Refusal>) {
     text(rt, "save");
     match written {
-        Written::Buckets(count) => {
+        Ok(count) => {
             text(rt, " 0 0");
             unsigned(rt, count as u64);
         }
-        Written::Refused(refusal) => {
+        Err(refusal) => {
             refused(rt, refusal);
             text(rt, " 0");
         }
@@ -136,39 +110,22 @@ fn mixed(sum: u64, number: u64) -> u64 {
     let b = a ^ (a << 13);
     let c = b ^ (b >> 7);
     let d = c ^ (c << 17);
-    std::num::wrapping_add_u64(d, 11400714819323198485)
+    d.wrapping_add(11400714819323198485)
 }
 
-// The bits of a number in two's complement.
-fn bits(number: i64) -> u64 {
-    if number < 0 {
-        18446744073709551615 - (-1 - number) as u64
-    } else {
-        number as u64
-    }
-}
-
-fn wide(byte: u8) -> u64 {
-    byte as u64
-}
-
-// The checksum of lent numbers.
+// The checksum of lent numbers, each by its bits in two's complement.
 pub(crate) fn numbers(rt: &impl Print, name: &str, numbers: &[i64]) {
     let mut sum = numbers.len() as u64;
-    let mut i = 0;
-    while i < numbers.len() {
-        sum = mixed(sum, bits(numbers[i]));
-        i += 1;
+    for number in numbers {
+        sum = mixed(sum, number.cast_unsigned());
     }
     checksum(rt, name, sum);
 }
 
 pub(crate) fn bytes(rt: &impl Print, name: &str, bytes: &[u8]) {
     let mut sum = bytes.len() as u64;
-    let mut i = 0;
-    while i < bytes.len() {
-        sum = mixed(sum, wide(bytes[i]));
-        i += 1;
+    for byte in bytes {
+        sum = mixed(sum, u64::from(*byte));
     }
     checksum(rt, name, sum);
 }

@@ -10,27 +10,19 @@ use output::put_byte;
 use wording::put_text;
 
 // One byte as it leaves.
+#[tactic(auto, unfolding(captions::specs::Caption::leaving, output::specs::Output::filled, output::specs::Output::sign, output::specs::Output::unused))]
 fn put_leaving(out: &mut [u8], at: usize, b: u8) -> usize
     requires { at + length (leaving signs b) < 2 ^ 64 }
     ensures { Put out.old at (leaving signs b) result out.new }
 {
-    let none = [0i64; 1];
-    if b == b'&' {
-        return put_text(out, at, b"&amp;", &none);
+    match b {
+        b'&' => put_text(out, at, b"&amp;", &[]),
+        b'<' => put_text(out, at, b"&lt;", &[]),
+        b'>' => put_text(out, at, b"&gt;", &[]),
+        b'"' => put_text(out, at, b"&quot;", &[]),
+        b'\'' => put_text(out, at, b"&#39;", &[]),
+        _ => put_byte(out, at, b),
     }
-    if b == b'<' {
-        return put_text(out, at, b"&lt;", &none);
-    }
-    if b == b'>' {
-        return put_text(out, at, b"&gt;", &none);
-    }
-    if b == b'"' {
-        return put_text(out, at, b"&quot;", &none);
-    }
-    if b == b'\'' {
-        return put_text(out, at, b"&#39;", &none);
-    }
-    put_byte(out, at, b)
 }
 
 // A caption, or a part of one.
@@ -39,10 +31,8 @@ pub fn put_caption(out: &mut [u8], at: usize, caption: &[u8]) -> usize
     ensures { Put out.old at (escaped caption.now) result out.new }
 {
     let mut next = at;
-    let mut done = 0;
-    while done < caption.len() {
-        next = put_leaving(&mut *out, next, caption[done]);
-        done += 1;
+    for b in caption {
+        next = put_leaving(&mut *out, next, *b);
     }
     next
 }

@@ -101,11 +101,3 @@ module _ (c : List ℕ) (i : ℕ) where
   pub escaped_done : length c ≤ i → escaped (drop i c) ≡ []
   unfolding escaped
   escaped_done h = rw (drop_of_length-le c {i = i} h)
-
-  pub printable_next : i < length c → all_printable (drop i c) ≡ printable (get_or c i 0) && all_printable (drop (i + 1) c)
-  unfolding all_printable
-  printable_next h = rw (add-one i, drop-cons c i 0 h)
-
-  pub printable_done : length c ≤ i → all_printable (drop i c) ≡ true
-  unfolding all_printable
-  printable_done h = rw (drop_of_length-le c {i = i} h)

@@ -6,22 +6,14 @@ ghost use Rattle.std.specs.Prelude.{◌+◌, ◌-◌, ◌≡◌};
 ghost use Rattle.rule.specs.Calls.{counted, grown};
 ghost use Rattle.trace.specs.Answers.{verdict};
 
-use rule::Tally;
-use trace::{Answer, Trace};
-
-// Where a count stops.
-const STOP: u32 = 4294967295;
+use rule::{Refusal, Tally};
+use trace::Trace;
 
 // A count that has grown stops at the most.
 pub fn grown(count: u32, by: usize) -> u32
     ensures { result ≡ grown count by }
 {
-    let left = STOP - count;
-    if (left as usize) < by {
-        STOP
-    } else {
-        count + by as u32
-    }
+    count.saturating_add(u32::try_from(by).unwrap_or(u32::MAX))
 }
 
 // The merges counted, of so many slots in use before and after, and so many buckets brought. before + brought need not fit, so what was brought is added last.
@@ -31,25 +23,20 @@ pub fn merged(count: u32, before: usize, brought: usize, after: usize) -> u32
     if after <= before {
         return grown(grown(count, before - after), brought);
     }
-    let more = after - before;
-    if brought < more {
-        grown(count, 0)
-    } else {
-        grown(count, brought - more)
-    }
+    grown(count, brought.saturating_sub(after - before))
 }
 
 // The tally after a reading on this trace.
-pub fn counted(t: Tally, trace: Trace, a: Answer) -> Tally
+pub fn counted(t: Tally, trace: Trace, a: Result<Trace, Refusal>) -> Tally
     ensures { result ≡ counted t trace.state.used (verdict a) }
 {
     match a {
-        Answer::Accepted(after) => Tally {
+        Ok(after) => Tally {
             accepted: grown(t.accepted, 1),
             refused: t.refused,
             merges: merged(t.merges, trace.state.used, 1, after.state.used),
         },
-        Answer::Refused(_) => Tally {
+        Err(_) => Tally {
             accepted: t.accepted,
             refused: grown(t.refused, 1),
             merges: t.merges,

@@ -1,11 +1,10 @@
 -- The broken lines as they are printed, bucket by bucket, are those of the runs.
 use Prim.Native.Nat.{ℕ, suc, ◌+◌, ◌-◌, ◌≤◌, ◌<◌}
 use mathlib.Core.Path.{◌≡◌, refl, sym, ap, ◌∙◌}
-use mathlib.Core.Bool.{true, false}
 use mathlib.Core.List.{List, [], ◌∷◌, ◌++◌, append_assoc, append-nil}
 use native.Mathlib.Numerals.{add-one}
 use native.Mathlib.Omega.{arith}
-use borrow.Author.Tests.{eq-eqb, ne_eqb}
+use borrow.Author.Tests.{ne_eqb}
 use lib.Dec.{eqb}
 use lib.IntN.{ℤ, pos}
 use Rattle.rule.specs.declared.Bucket.{Bucket}
@@ -32,14 +31,9 @@ pub end_of_line : (ns : List ℤ) → filled (ascii "\"/>\n") ns ≡ line_end
 unfolding filled sign unused
 end_of_line ns = refl
 
-module _ (e start : ℕ) where
-  pub goes_on : e ≡ start → joint e start ≡ []
-  unfolding joint
-  goes_on h = rw (eq-eqb e start h)
-
-  pub begins_anew : (ns : List ℤ) → (e ≡ start → ⊥) → joint e start ≡ filled (ascii "\"/>\n<polyline points=\"") ns
-  unfolding joint filled sign unused
-  begins_anew ns h = rw (ne_eqb e start h)
+pub begins_anew : (e start : ℕ) (ns : List ℤ) → (e ≡ start → ⊥) → joint e start ≡ filled (ascii "\"/>\n<polyline points=\"") ns
+unfolding joint filled sign unused
+begins_anew e start ns h = rw (ne_eqb e start h)
 
 module _ (v : View) where
   -- ---- the points of one bucket

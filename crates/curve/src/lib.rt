@@ -25,6 +25,7 @@ fn put_points(out: &mut [u8], at: usize, v: View, b: Bucket) -> usize
 }
 
 // The run goes on, or the next one begins.
+#[tactic(auto, unfolding(crate::specs::Joints::joint, output::specs::Output::filled, output::specs::Output::sign, output::specs::Output::unused))]
 fn put_joint(out: &mut [u8], at: usize, end: usize, start: usize) -> usize
     requires { at + length (joint end start) < 2 ^ 64 }
     ensures { Put out.old at (joint end start) result out.new }
@@ -32,8 +33,7 @@ fn put_joint(out: &mut [u8], at: usize, end: usize, start: usize) -> usize
     if end == start {
         return at;
     }
-    let none = [0i64; 1];
-    put_text(out, at, b"\"/>\n<polyline points=\"", &none)
+    put_text(out, at, b"\"/>\n<polyline points=\"", &[])
 }
 
 // A bucket behind one that ends at `end`.
@@ -52,15 +52,12 @@ fn put_after(out: &mut [u8], at: usize, v: View, room: &[i64], used: usize, firs
 {
     let mut next = at;
     let mut end = first;
-    let mut i = 1;
-    while i < used {
+    for i in 1..used {
         let b = slots::read(room, i);
         next = put_next(&mut *out, next, v, end, b);
         end = bucket::end(b);
-        i += 1;
     }
-    let none = [0i64; 1];
-    put_text(out, next, b"\"/>\n", &none)
+    put_text(out, next, b"\"/>\n", &[])
 }
 
 // One broken line for each run of the first slots.
@@ -71,9 +68,8 @@ pub fn put_lines(out: &mut [u8], at: usize, v: View, room: &[i64], used: usize) 
     if used == 0 {
         return at;
     }
-    let none = [0i64; 1];
     let first = slots::read(room, 0);
-    let begun = put_text(out, at, b"<polyline points=\"", &none);
+    let begun = put_text(out, at, b"<polyline points=\"", &[]);
     let next = put_points(out, begun, v, first);
     put_after(out, next, v, room, used, bucket::end(first))
 }

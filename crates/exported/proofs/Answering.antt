@@ -11,17 +11,14 @@ use Rattle.rule.specs.declared.Refusal.TheVariants.{Steps, Gaps, Room, Unsound, 
 use Rattle.rule.specs.declared.State.{State}
 use Rattle.rule.specs.declared.Tally.{Tally}
 use Rattle.rule.specs.declared.Found.{Found}
-use Rattle.rule.specs.declared.Written.{Written}
 use Rattle.rule.specs.Answers.{number, place}
-use Rattle.rule.specs.Calls.{Verdict, accepted, checked, counted, found_of, grown, late_outcome, late_verdict, loaded, lookup_outcome, measured, next_outcome, next_verdict, opened, refused, row_outcome, save_outcome, traced, worst_outcome, write_verdict, wrote}
+use Rattle.rule.specs.Calls.{Verdict, checked, counted, found_of, grown, late_outcome, late_verdict, loaded, lookup_outcome, next_outcome, next_verdict, opened, row_outcome, save_outcome, traced, worst_outcome, write_verdict, wrote}
 use Rattle.rule.specs.Numbers.{record_width}
 use Rattle.rule.specs.Room.{all_of, bounded, clauses, edition_good, sound}
 use Rattle.rule.proofs.Whole.{by_test}
 use Rattle.trace.specs.Answers.{answer, answered}
-use Rattle.over.specs.declared.Sought.{Sought}
 use Rattle.over.specs.Search.{search_outcome, sought_of}
 use Rattle.over.proofs.Searching as searching
-use Rattle.rule.specs.declared.Measured.{Measured}
 use Rattle.demands.specs.Curve as curve
 use Rattle.fields.specs.declared.Fields.{Fields}
 use Rattle.fields.specs.States.{kind_of, none, opening_of, size_of, state_from}
@@ -30,6 +27,8 @@ use Rattle.replay.specs.Answers as replay
 use Rattle.answered.specs.Answered.{Answered, Row, file_rows, first_of, late_rows, lookup_rows, next_rows, open_rows, said, said_found, said_measured, said_sought, said_written, search_rows, worst_rows, write_rows}
 use Rattle.exported.specs.Exported.{Counts, Errs, ExportedDemand1, Points, Replies, Shows, Tallies, first_due}
 use Rattle.answered.proofs.Answering.{demand1}
+use Rattle.std.specs.Prelude.{Ok, Err, None, Some}
+use Rattle.over.specs.Hits.{Searched}
 
 -- refusal and place, zeros where nothing is said
 abbrev pub saying : Option (ℕ × ℕ) → ℕ × ℕ
@@ -61,42 +60,42 @@ numbered Edition = omega arith
 
 replies : (back : Fields) (v : Verdict State) (rows : List Row) (before after : List ℤ) → Answered (said v) rows before after → Replies rows back before after (replying back (answer v))
 unfolding said replying answer
-replies back (refused r) rows before after a = record { exactly = ap saying a.exactly ∙ sym (due rows); untouched = λ h. (refl, a.untouched (number r, place r) refl) }
-replies back (accepted s) rows before after a = record { exactly = ap saying a.exactly ∙ sym (due rows); untouched = λ h. absurd (h refl) }
+replies back (Err r) rows before after a = record { exactly = ap saying a.exactly ∙ sym (due rows); untouched = λ h. (refl, a.untouched (number r, place r) refl) }
+replies back (Ok s) rows before after a = record { exactly = ap saying a.exactly ∙ sym (due rows); untouched = λ h. absurd (h refl) }
 
 tallies : (back : Fields) (used : ℕ) (v : Verdict State) (t : Tally) → Tallies used (replying back (answer v)) t (counted t used v)
 unfolding said counted grown replying answer
-tallies back used (refused r) t = record { counts_refused = λ h. demand1.tally t used (refused r) (number r, place r) refl; counts_accepted = λ h. absurd (omega (arith, h, numbered r)) }
-tallies back used (accepted s) t = record { counts_refused = λ h. absurd (h refl); counts_accepted = λ h. refl }
+tallies back used (Err r) t = record { counts_refused = λ h. demand1.tally t used (Err r) (number r, place r) refl; counts_accepted = λ h. absurd (omega (arith, h, numbered r)) }
+tallies back used (Ok s) t = record { counts_refused = λ h. absurd (h refl); counts_accepted = λ h. refl }
 
-shows_found : (f : Found) (rows : List Row) → said_found f ≡ first_of rows → Shows rows (showing f)
+shows_found : (f : Verdict Found) (rows : List Row) → said_found f ≡ first_of rows → Shows rows (showing f)
 unfolding said_found showing
-shows_found (Found.Refused r) rows e = record { exactly = ap saying e ∙ sym (due rows); zeros = λ h. refl }
-shows_found (Found.Level level error least largest) rows e = record { exactly = ap saying e ∙ sym (due rows); zeros = λ h. absurd (h refl) }
+shows_found (Err r) rows e = record { exactly = ap saying e ∙ sym (due rows); zeros = λ h. refl }
+shows_found (Ok f) rows e = record { exactly = ap saying e ∙ sym (due rows); zeros = λ h. absurd (h refl) }
 
-points : (s : Sought) (rows : List Row) → said_sought s ≡ first_of rows → Points rows (pointing s)
+points : (s : Searched) (rows : List Row) → said_sought s ≡ first_of rows → Points rows (pointing s)
 unfolding said_sought pointing
-points (Sought.Refused r) rows e = record { exactly = ap saying e ∙ sym (due rows); zeros = λ h. refl }
-points Sought.Nowhere rows e = record { exactly = ap saying e ∙ sym (due rows); zeros = λ h. absurd (h refl) }
-points (Sought.At index start) rows e = record { exactly = ap saying e ∙ sym (due rows); zeros = λ h. absurd (h refl) }
+points (Err r) rows e = record { exactly = ap saying e ∙ sym (due rows); zeros = λ h. refl }
+points (Ok None) rows e = record { exactly = ap saying e ∙ sym (due rows); zeros = λ h. absurd (h refl) }
+points (Ok (Some h)) rows e = record { exactly = ap saying e ∙ sym (due rows); zeros = λ h. absurd (h refl) }
 
-errs : (m : Measured) (rows : List Row) → said_measured m ≡ first_of rows → Errs rows (erring m)
+errs : (m : Verdict ℕ) (rows : List Row) → said_measured m ≡ first_of rows → Errs rows (erring m)
 unfolding said_measured erring
-errs (Measured.Refused r) rows e = record { exactly = ap saying e ∙ sym (due rows); none_told = λ h. refl }
-errs (Measured.Error n) rows e = record { exactly = ap saying e ∙ sym (due rows); none_told = λ h. absurd (h refl) }
+errs (Err r) rows e = record { exactly = ap saying e ∙ sym (due rows); none_told = λ h. refl }
+errs (Ok n) rows e = record { exactly = ap saying e ∙ sym (due rows); none_told = λ h. absurd (h refl) }
 
-counts : {A : Type 0} (w : Written) (rows : List Row) (before after : List A) → Answered (said_written w) rows before after → Counts rows before after (telling w)
+counts : {A : Type 0} (w : Verdict ℕ) (rows : List Row) (before after : List A) → Answered (said_written w) rows before after → Counts rows before after (telling w)
 unfolding said_written telling
-counts (Written.Refused r) rows before after a = record { exactly = ap saying a.exactly ∙ sym (due rows); untouched = λ h. (refl, a.untouched (number r, place r) refl) }
-counts (Written.Buckets n) rows before after a = record { exactly = ap saying a.exactly ∙ sym (due rows); untouched = λ h. absurd (h refl) }
+counts (Err r) rows before after a = record { exactly = ap saying a.exactly ∙ sym (due rows); untouched = λ h. (refl, a.untouched (number r, place r) refl) }
+counts (Ok n) rows before after a = record { exactly = ap saying a.exactly ∙ sym (due rows); untouched = λ h. absurd (h refl) }
 
 eight : (back : Fields) (v : Verdict State) → (replying back (answer v)).refusal ≡ 8 → said v ≡ some (8, (replying back (answer v)).place)
 unfolding said replying answer
-eight back (refused r) e = ap (λ (n : ℕ). some (n, place r)) e
-eight back (accepted s) e = absurd (omega arith)
+eight back (Err r) e = ap (λ (n : ℕ). some (n, place r)) e
+eight back (Ok s) e = absurd (omega arith)
 
 pub exported_demand1 : ExportedDemand1
-unfolding sound clauses edition_good all_of bounded next_verdict late_verdict lookup_outcome found_of write_verdict search_outcome sought_of worst_outcome measured checked traced wrote answer replying showing telling pointing erring kind_of size_of
+unfolding sound clauses edition_good all_of bounded next_verdict late_verdict lookup_outcome found_of write_verdict search_outcome sought_of worst_outcome checked traced wrote answer replying showing telling pointing erring kind_of size_of
 exported_demand1 = record {
   opens = λ named l. let g = opening_of named in replies none (opened g l).0 (open_rows g l) l (opened g l).1 (demand1.opens g l);
   nexts = λ f l v. let s = state_from f in replies f (next_outcome s l v).0 (next_rows s l) l (next_outcome s l v).1 (demand1.nexts s l v);

@@ -18,7 +18,7 @@ use Rattle.rule.specs.declared.Found.{Found}
 use Rattle.rule.specs.Answers.{place}
 use Rattle.rule.specs.Bucket.{distance}
 use Rattle.rule.specs.Bytes.{saved}
-use Rattle.rule.specs.Calls.{Verdict, checked, counted, found, found_of, is_held, kept, loaded, lookup_outcome, measured, worst_outcome, write_verdict, wrote}
+use Rattle.rule.specs.Calls.{Verdict, checked, counted, found, found_of, is_held, kept, loaded, lookup_outcome, worst_outcome, write_verdict, wrote}
 use Rattle.rule.specs.Numbers.{record_width, slot_width, ticks}
 use Rattle.rule.specs.Room.{sound, table_of}
 use Rattle.rule.specs.Table.{Table, holders, holding, holds, needed, worst}
@@ -73,7 +73,7 @@ looked f l tick true fit h small = ap (λ (x : ℕ × ℕ). x.0) (exported_deman
 looked f l tick false fit h small = ap (λ (x : ℕ × ℕ). x.0) (exported_demand1.lookups f l tick).exactly ∙ by_test (leb ticks tick) (λ g. rw (fit, g)) (λ g. rw (fit, g, h))
 
 worst_of : (f : Fields) (l : List ℤ) → sound (state_from f) l ≡ true → worst_reply f l ≡ record { refusal = 0; place = 0; error = worst (table_of (state_from f) l) }
-unfolding worst_outcome measured checked erring
+unfolding worst_outcome checked erring
 worst_of f l fit = rw fit
 
 -- ---- what ndz_row and ndz_save write of it
@@ -150,8 +150,8 @@ promises {named} {rs} {f} {l} c =
     let p = k.picture c E few near in
     let seen = p.0 r m in
     record {
-      shown = ap (λ (x : Found). (showing x).refusal) seen.answer;
-      near = subst (λ (x : Found). distance r.value (showing x).level ≤ E) (sym seen.answer) seen.near;
+      shown = ap (λ (x : Verdict Found). (showing x).refusal) seen.answer;
+      near = subst (λ (x : Verdict Found). distance r.value (showing x).level ≤ E) (sym seen.answer) seen.near;
       error = omega (arith, shown_error f l r.tick, p.1);
     } in
     record {

@@ -15,7 +15,7 @@ use lib.ListN.{length, length-append, take}
 use Rattle.rule.specs.declared.Refusal.{Refusal}
 use Rattle.rule.specs.declared.State.{State}
 use Rattle.rule.specs.Answers.{number, place}
-use Rattle.rule.specs.Calls.{Verdict, accepted, late, late_outcome, late_verdict, next_outcome, next_verdict, refused}
+use Rattle.rule.specs.Calls.{Verdict, late, late_outcome, late_verdict, next_outcome, next_verdict}
 use Rattle.rule.specs.Room.{signed}
 use Rattle.rule.proofs.Whole.{by_test}
 use Rattle.rooms.proofs.Outcomes.{traced_refused}
@@ -42,6 +42,7 @@ use Rattle.exported.specs.Exported.{Called}
 use Rattle.exported.specs.Many.{ExportedMany, ManyAsOne, late_each, late_one}
 use Rattle.exported.proofs.Answering.{exported_demand1, numbered}
 use Rattle.exported.proofs.Reaching.{reaches}
+use Rattle.std.specs.Prelude.{Ok, Err}
 
 -- ---- the answer, field by field
 
@@ -86,8 +87,8 @@ one_told : (f : Fields) (s : State) (o : Verdict State × List ℤ) → let r = 
     told f (or_end 0 s o.0 o.1 (λ t m. record { state = t; room = m; accepted = 1; refusal = none }))
     ≡ (record { refusal = r.0.refusal; place = r.0.place; state = r.0.state; accepted = cond (eqb r.0.refusal 0) 1 0 }, r.1)
 unfolding or_end replying answer
-one_told f s (refused r, m) = ap (λ (b : Bool). (record { refusal = number r; place = place r; state = f; accepted = cond b 1 0 }, m)) (sym (ne_eqb (number r) 0 (λ e. omega (arith, numbered r))))
-one_told f s (accepted t, m) = refl
+one_told f s (Err r, m) = ap (λ (b : Bool). (record { refusal = number r; place = place r; state = f; accepted = cond b 1 0 }, m)) (sym (ne_eqb (number r) 0 (λ e. omega (arith, numbered r))))
+one_told f s (Ok t, m) = refl
 
 -- the same length in front: the same reading
 same_reading : {A : Type 0} (xs ys : List A) (v w : A) (a b : List A) → xs ++ (v ∷ a) ≡ ys ++ (w ∷ b) → length xs ≡ length ys → v ≡ w
@@ -96,7 +97,7 @@ same_reading [] (y ∷ ys) v w a b e h = absurd (omega arith)
 same_reading (x ∷ xs) [] v w a b e h = absurd (omega arith)
 same_reading (x ∷ xs) (y ∷ ys) v w a b e h = same_reading xs ys v w a b (cc) (omega arith)
 
-module _ {A : Type 0} (call : Call A) (turn : InTurn (fed_from call 0) call) (quiet : (s : State) (l : List ℤ) (v : A) (r : Refusal) (m : List ℤ) → call s l v ≡ (refused r, m) → m ≡ l) where
+module _ {A : Type 0} (call : Call A) (turn : InTurn (fed_from call 0) call) (quiet : (s : State) (l : List ℤ) (v : A) (r : Refusal) (m : List ℤ) → call s l v ≡ (Err r, m) → m ≡ l) where
   abbrev many : Fields → List ℤ → List A → Fed × List ℤ
   many f l vs = told f (fed_from call 0 (state_from f) l vs)
 
@@ -131,7 +132,7 @@ module _ {A : Type 0} (call : Call A) (turn : InTurn (fed_from call 0) call) (qu
       (λ e. rw (e, ne_eqb (n + h.accepted) 0 (λ z. eqb-false h.accepted 0 e (omega arith))))
 
   first_refuses : (s : State) (l : List ℤ) (front : List A) (v : A) (rest : List A) → let g = fed_from call 0 s l (front ++ (v ∷ rest)) in g.accepted ≡ length front
-      → (r : Refusal) → g.refusal ≡ some r → call g.state g.room v ≡ (refused r, g.room)
+      → (r : Refusal) → g.refusal ≡ some r → call g.state g.room v ≡ (Err r, g.room)
   first_refuses s l front v rest e r q =
       let g : series.Fed = fed_from call 0 s l (front ++ (v ∷ rest)) in
       let w = turn.first_refused s l (front ++ (v ∷ rest)) r q in
@@ -201,10 +202,10 @@ module _ {A : Type 0} (call : Call A) (turn : InTurn (fed_from call 0) call) (qu
 
 -- ---- the two calls
 
-next_quiet : (s : State) (l : List ℤ) (v : ℤ) (r : Refusal) (m : List ℤ) → next_call s l v ≡ (refused r, m) → m ≡ l
+next_quiet : (s : State) (l : List ℤ) (v : ℤ) (r : Refusal) (m : List ℤ) → next_call s l v ≡ (Err r, m) → m ≡ l
 next_quiet s l v r m e = traced_refused s.settings l (next_verdict s l v) r m e
 
-late_quiet : (s : State) (l : List ℤ) (w : ℕ × ℤ) (r : Refusal) (m : List ℤ) → late_call s l w ≡ (refused r, m) → m ≡ l
+late_quiet : (s : State) (l : List ℤ) (w : ℕ × ℤ) (r : Refusal) (m : List ℤ) → late_call s l w ≡ (Err r, m) → m ≡ l
 late_quiet s l w r m e = traced_refused s.settings l (late_verdict s l w.0 w.1) r m e
 
 as_next : ManyAsOne next_many_reply next_reply

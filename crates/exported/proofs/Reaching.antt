@@ -10,8 +10,7 @@ use lib.ListN.{take}
 use Rattle.rule.specs.declared.Refusal.{Refusal}
 use Rattle.rule.specs.declared.Settings.{Settings}
 use Rattle.rule.specs.declared.State.{State}
-use Rattle.rule.specs.declared.Written.{Written}
-use Rattle.rule.specs.Calls.{Verdict, accepted, late, late_outcome, loaded, next_outcome, opened, refused, save_outcome}
+use Rattle.rule.specs.Calls.{Verdict, late, late_outcome, loaded, next_outcome, opened, save_outcome}
 use Rattle.rule.specs.Numbers.{record_width}
 use Rattle.trace.specs.Answers.{answer, answered}
 use Rattle.over.proofs.Searching as searching
@@ -32,45 +31,46 @@ use Rattle.exported.specs.Exported.{Called}
 use Rattle.promises.proofs.Keeping.{keeps}
 use Rattle.answered.proofs.Outcomes.{next_in_order}
 use Rattle.exported.proofs.Answering.{numbered}
+use Rattle.std.specs.Prelude.{Ok, Err}
 
 -- ---- a reply, taken apart by its refusal
 
 module _ (back : Fields) where
   -- refusal 0: the call was accepted, and the reply's state is the call's
   pub record Accepts (o : Verdict State × List ℤ) (r : Reply) (m : List ℤ) : Type 0 where
-    pub outcome : o ≡ (accepted (state_from r.state), m)
+    pub outcome : o ≡ (Ok (state_from r.state), m)
     pub plain : fields_of (state_from r.state) ≡ r.state
 
   pub accepts : (o : Verdict State × List ℤ) {r : Reply} {m : List ℤ} → replied back (answered o) ≡ (r, m) → r.refusal ≡ 0 → Accepts o r m
   unfolding replying answer
-  accepts (refused q, l) e z = absurd (omega (arith, numbered q, ap (λ (x : Reply × List ℤ). x.0.refusal) e))
-  accepts (accepted s, l) e z = record {
-    outcome = ap (λ (x : State). (accepted x, l)) (sym (same_state s)) ∙ ap (λ (x : Reply × List ℤ). (accepted (state_from x.0.state), x.1)) e;
+  accepts (Err q, l) e z = absurd (omega (arith, numbered q, ap (λ (x : Reply × List ℤ). x.0.refusal) e))
+  accepts (Ok s, l) e z = record {
+    outcome = ap (λ (x : State). (Ok x, l)) (sym (same_state s)) ∙ ap (λ (x : Reply × List ℤ). (Ok (state_from x.0.state), x.1)) e;
     plain = subst (λ (x : Reply × List ℤ). fields_of (state_from x.0.state) ≡ x.0.state) e (ap fields_of (same_state s));
   }
 
   -- another: it was refused, and the state is the one handed back
   record Refuses (o : Verdict State × List ℤ) (r : Reply) (m : List ℤ) : Type 0 where
     why : Refusal
-    outcome : o ≡ (refused why, m)
+    outcome : o ≡ (Err why, m)
     state : r.state ≡ back
 
   refuses : (o : Verdict State × List ℤ) {r : Reply} {m : List ℤ} → replied back (answered o) ≡ (r, m) → r.refusal ≢ 0 → Refuses o r m
   unfolding replying answer
-  refuses (refused q, l) e n = record { why = q; outcome = ap (λ (x : Reply × List ℤ). (refused q, x.1)) e; state = sym (ap (λ (x : Reply × List ℤ). x.0.state) e) }
-  refuses (accepted s, l) e n = absurd (n (sym (ap (λ (x : Reply × List ℤ). x.0.refusal) e)))
+  refuses (Err q, l) e n = record { why = q; outcome = ap (λ (x : Reply × List ℤ). (Err q, x.1)) e; state = sym (ap (λ (x : Reply × List ℤ). x.0.state) e) }
+  refuses (Ok s, l) e n = absurd (n (sym (ap (λ (x : Reply × List ℤ). x.0.refusal) e)))
 
 -- the same of a reply that counts what was written
-writes : (o : Written × List ℕ) {c : Counted} {written : List ℕ} → told o ≡ (c, written) → c.refusal ≡ 0 → o ≡ (Written.Buckets c.buckets, written)
+writes : (o : Verdict ℕ × List ℕ) {c : Counted} {written : List ℕ} → told o ≡ (c, written) → c.refusal ≡ 0 → o ≡ (Ok c.buckets, written)
 unfolding telling
-writes (Written.Refused q, l) e z = absurd (omega (arith, numbered q, ap (λ (x : Counted × List ℕ). x.0.refusal) e))
-writes (Written.Buckets n, l) e z = ap (λ (x : Counted × List ℕ). (Written.Buckets x.0.buckets, x.1)) e
+writes (Err q, l) e z = absurd (omega (arith, numbered q, ap (λ (x : Counted × List ℕ). x.0.refusal) e))
+writes (Ok n, l) e z = ap (λ (x : Counted × List ℕ). (Ok x.0.buckets, x.1)) e
 
 -- and of one that counts records
-recount_refuses : (o : Verdict Course × List ℤ) {r : Recount} {m : List ℤ} → ◌≡◌ {A = Recount × List ℤ} (recounting (replay.answer o.0), o.1) (r, m) → r.refusal ≢ 0 → (why : Refusal) × (o ≡ (refused why, m))
+recount_refuses : (o : Verdict Course × List ℤ) {r : Recount} {m : List ℤ} → ◌≡◌ {A = Recount × List ℤ} (recounting (replay.answer o.0), o.1) (r, m) → r.refusal ≢ 0 → (why : Refusal) × (o ≡ (Err why, m))
 unfolding recounting replay.answer
-recount_refuses (refused q, l) e n = (q, ap (λ (x : Recount × List ℤ). (refused q, x.1)) e)
-recount_refuses (accepted c, l) e n = absurd (n (sym (ap (λ (x : Recount × List ℤ). x.0.refusal) e)))
+recount_refuses (Err q, l) e n = (q, ap (λ (x : Recount × List ℤ). (Err q, x.1)) e)
+recount_refuses (Ok c, l) e n = absurd (n (sym (ap (λ (x : Recount × List ℤ). x.0.refusal) e)))
 
 -- ---- what the exported functions reach
 

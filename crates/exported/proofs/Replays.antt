@@ -9,7 +9,7 @@ use Rattle.demands.specs.History.{Reading}
 use lib.ListN.{length}
 use Rattle.rule.specs.declared.State.{State}
 use Rattle.rule.specs.Answers.{number, place}
-use Rattle.rule.specs.Calls.{Verdict, accepted, late_outcome, opened, refused}
+use Rattle.rule.specs.Calls.{Verdict, late_outcome, opened}
 use Rattle.rule.specs.Room.{signed}
 use Rattle.trace.specs.Answers.{answer, answered}
 use Rattle.logger.specs.Replay.{Course, Landed, late_opening, replay_outcome}
@@ -28,13 +28,14 @@ use Rattle.exported.specs.Exported.{Called}
 use Rattle.exported.specs.Replay.{ExportedReplay, Recounts, late_named, readings_in}
 use Rattle.exported.proofs.Answering.{due, numbered, saying}
 use Rattle.exported.proofs.Reaching.{accepts}
+use Rattle.std.specs.Prelude.{Ok, Err}
 
 -- ---- by the verdict
 
 recounts : (v : Verdict Course) (rows : List Row) (before after : List ℤ) → Answered (said v) rows before after → Recounts rows before after (recounting (replay.answer v))
 unfolding said recounting replay.answer
-recounts (refused r) rows before after a = record { exactly = ap saying a.exactly ∙ sym (due rows); untouched = λ h. (refl, refl, refl, a.untouched (number r, place r) refl) }
-recounts (accepted c) rows before after a = record { exactly = ap saying a.exactly ∙ sym (due rows); untouched = λ h. absurd (h refl) }
+recounts (Err r) rows before after a = record { exactly = ap saying a.exactly ∙ sym (due rows); untouched = λ h. (refl, refl, refl, a.untouched (number r, place r) refl) }
+recounts (Ok c) rows before after a = record { exactly = ap saying a.exactly ∙ sym (due rows); untouched = λ h. absurd (h refl) }
 
 length_readings : (ws : List Landed) → length (readings_of ws) ≡ length ws
 unfolding readings_of
@@ -43,16 +44,16 @@ length_readings (w ∷ ws) = omega (arith, length_readings ws)
 
 as_many : (v : Verdict Course) → length (readings_in v) ≡ (recounting (replay.answer v)).accepted
 unfolding readings_in recounting replay.answer
-as_many (refused r) = refl
-as_many (accepted c) = length_readings c.landed
+as_many (Err r) = refl
+as_many (Ok c) = length_readings c.landed
 
 -- refusal 0: the call was accepted, and its course is the reply's
 done : (P : Recount → List Reading → Type 0) (v : Verdict Course) → (recounting (replay.answer v)).refusal ≡ 0
-    → ((c : Course) → v ≡ accepted c → P (record { refusal = 0; place = 0; state = fields_of c.state; accepted = length c.landed; refused = c.refused }) (readings_of c.landed))
+    → ((c : Course) → v ≡ Ok c → P (record { refusal = 0; place = 0; state = fields_of c.state; accepted = length c.landed; refused = c.refused }) (readings_of c.landed))
     → P (recounting (replay.answer v)) (readings_in v)
 unfolding recounting replay.answer readings_in
-done P (refused r) z f = absurd (omega (arith, numbered r, z))
-done P (accepted c) z f = f c refl
+done P (Err r) z f = absurd (omega (arith, numbered r, z))
+done P (Ok c) z f = f c refl
 
 -- ---- what it leaves is called
 
@@ -60,11 +61,11 @@ module _ (named : Named) (l : List ℤ) where
   abbrev Leaves : State → List ℤ → List Landed → Type 0
   Leaves s n ws = Called (late_named named) (readings_of ws) (fields_of s) n
 
-  opens : (s : State) (n : List ℤ) → opened (late_opening (opening_of named).size named.gaps named.edition) l ≡ (accepted s, n) → Leaves s n []
+  opens : (s : State) (n : List ℤ) → opened (late_opening (opening_of named).size named.gaps named.edition) l ≡ (Ok s, n) → Leaves s n []
   unfolding kind_of readings_of replying answer
   opens s n e = Called.opens l (ap (λ (o : Verdict State × List ℤ). replied none (answered o)) e) refl
 
-  takes : (s t : State) (m n : List ℤ) (ws : List Landed) (w : Landed) → signed w.value ≡ true → late_outcome s m (nat_abs w.tick) w.value ≡ (accepted t, n) → Leaves s m ws → Leaves t n (w ∷ ws)
+  takes : (s t : State) (m n : List ℤ) (ws : List Landed) (w : Landed) → signed w.value ≡ true → late_outcome s m (nat_abs w.tick) w.value ≡ (Ok t, n) → Leaves s m ws → Leaves t n (w ∷ ws)
   unfolding readings_of replying answer
   takes s t m n ws w range e c =
       Called.lates (nat_abs w.tick) w.value range c

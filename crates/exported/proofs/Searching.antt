@@ -9,13 +9,12 @@ use lib.Dec.{leb}
 use lib.IntN.{ℤ}
 use lib.Signed.{le_z}
 use Rattle.rule.specs.declared.Bucket.{Bucket}
-use Rattle.rule.specs.Calls.{checked, found, found_of, lookup_outcome}
+use Rattle.rule.specs.Calls.{checked, found, found_of, lookup_outcome, Verdict}
 use Rattle.rule.specs.Numbers.{ticks}
 use Rattle.rule.specs.Room.{sound, table_of}
 use Rattle.rule.specs.Table.{Table, holding, holds}
 use Rattle.rule.proofs.Whole.{by_test}
 use Rattle.rule.proofs.Tables.{held_within}
-use Rattle.over.specs.declared.Sought.{Sought}
 use Rattle.over.specs.Promise.{First, Over}
 use Rattle.over.specs.Search.{search_outcome}
 use Rattle.over.proofs.Searching as searching
@@ -26,31 +25,33 @@ use Rattle.plain.specs.Plain.{lookup_reply, pointing, showing}
 use Rattle.replay.specs.Answers as replay
 use Rattle.exported.specs.Exported.{ExportedSearch}
 use Rattle.exported.proofs.Answering.{numbered}
+use Rattle.std.specs.Prelude.{Ok, Err, None, Some}
+use Rattle.over.specs.Hits.{Searched, hit}
 
 module _ (t : Table) (first last : ℕ) (bar : ℤ) where
-  one_or_none : (s : Sought) → (pointing s).found ≢ 1 → (pointing s).found ≡ 0
+  one_or_none : (s : Searched) → (pointing s).found ≢ 1 → (pointing s).found ≡ 0
   unfolding pointing
-  one_or_none (Sought.At index start) h = absurd (h refl)
-  one_or_none Sought.Nowhere h = refl
-  one_or_none (Sought.Refused r) h = refl
+  one_or_none (Ok (Some at)) h = absurd (h refl)
+  one_or_none (Ok None) h = refl
+  one_or_none (Err r) h = refl
 
-  hits : (s : Sought) → ((index start : ℕ) → s ≡ Sought.At index start → First first last bar t index start) → (pointing s).found ≡ 1 → First first last bar t (pointing s).index (pointing s).start
+  hits : (s : Searched) → ((index start : ℕ) → s ≡ hit index start → First first last bar t index start) → (pointing s).found ≡ 1 → First first last bar t (pointing s).index (pointing s).start
   unfolding pointing
-  hits (Sought.At index start) f e = f index start refl
-  hits Sought.Nowhere f e = absurd (omega arith)
-  hits (Sought.Refused r) f e = absurd (omega arith)
+  hits (Ok (Some h)) f e = f h.index h.start refl
+  hits (Ok None) f e = absurd (omega arith)
+  hits (Err r) f e = absurd (omega arith)
 
-  misses : (s : Sought) → (s ≡ Sought.Nowhere → (b : Bucket) → Memᴰ b t → Over first last bar b → ⊥) → (pointing s).refusal ≡ 0 → (pointing s).found ≡ 0 → (b : Bucket) → Memᴰ b t → Over first last bar b → ⊥
+  misses : (s : Searched) → (s ≡ (Ok None) → (b : Bucket) → Memᴰ b t → Over first last bar b → ⊥) → (pointing s).refusal ≡ 0 → (pointing s).found ≡ 0 → (b : Bucket) → Memᴰ b t → Over first last bar b → ⊥
   unfolding pointing
-  misses (Sought.At index start) f z e = absurd (omega arith)
-  misses Sought.Nowhere f z e = f refl
-  misses (Sought.Refused r) f z e = absurd (omega (arith, numbered r))
+  misses (Ok (Some h)) f z e = absurd (omega arith)
+  misses (Ok None) f z e = f refl
+  misses (Err r) f z e = absurd (omega (arith, numbered r))
 
-  zeros : (s : Sought) → (pointing s).found ≡ 0 → ((pointing s).index ≡ 0) × ((pointing s).start ≡ 0)
+  zeros : (s : Searched) → (pointing s).found ≡ 0 → ((pointing s).index ≡ 0) × ((pointing s).start ≡ 0)
   unfolding pointing
-  zeros (Sought.At index start) e = absurd (omega arith)
-  zeros Sought.Nowhere e = (refl, refl)
-  zeros (Sought.Refused r) e = (refl, refl)
+  zeros (Ok (Some h)) e = absurd (omega arith)
+  zeros (Ok None) e = (refl, refl)
+  zeros (Err r) e = (refl, refl)
 
 shown_low : (tick first last : ℕ) (bar : ℤ) (t : Table) → ((b : Bucket) → Memᴰ b t → Over first last bar b → ⊥) → first ≤ tick → tick ≤ last → (showing (found (holding tick t))).refusal ≡ 0 → le_z bar (showing (found (holding tick t))).largest ≡ false
 unfolding showing found holding

@@ -1,7 +1,7 @@
 -- The demands of ndz_replay: what it answers and leaves, and what is promised of the trace that it leaves.
-use Rattle.std.specs.Prelude.{ℕ, suc, ◌+◌, ◌*◌, ◌%◌, ◌≡◌, ◌≢◌, List, [], ◌++◌, ℤ, length}
+use Rattle.std.specs.Prelude.{ℕ, suc, ◌+◌, ◌*◌, ◌%◌, ◌≡◌, ◌≢◌, List, [], ◌++◌, ℤ, length, Ok, Err}
 use Rattle.rule.specs.declared.Kind.TheVariants.{Late}
-use Rattle.rule.specs.Calls.{Verdict, accepted, refused}
+use Rattle.rule.specs.Calls.{Verdict}
 use Rattle.demands.specs.History.{Reading}
 use Rattle.logger.specs.Replay.{Course, begun, frames_of, replay_outcome}
 use Rattle.logger.specs.True.{Event, Near, fed_true, first_of, sent}
@@ -24,8 +24,8 @@ late_named named = record { kind = 1; size = named.size; gaps = named.gaps; by =
 
 -- the accepted records, last first
 unfoldable pub readings_in : Verdict Course → List Reading
-readings_in (refused r) = []
-readings_in (accepted c) = readings_of c.landed
+readings_in (Err r) = []
+readings_in (Ok c) = readings_of c.landed
 
 abbrev pub replay_readings : Named → List ℕ → List ℤ → List Reading
 replay_readings named recording l = readings_in (replay_outcome (opening_of named).size named.gaps named.edition recording l).0

@@ -26,34 +26,23 @@ pub struct Contents {
     pub readings: usize,
 }
 
-// The runs and readings of a file that loads, or the refusal.
-#[derive(Clone, Copy)]
-pub enum Inspected {
-    Counts(Contents),
-    Refused(Refusal),
-}
-
 // The index of the first record that breaks a rule, the number of whole records where none does.
 pub fn first_fault(kind: Kind, file: &[u8]) -> usize
     ensures { result ≡ place_or (length file.now / record_width) (first_fault kind 0 0 (records_of file.now)) }
 {
     let n = file.len() / RECORD;
     let mut end = 0;
-    let mut i = 0;
-    let bad = 'records: loop {
-        if n <= i {
-            break 'records n;
-        }
-        let b = read(file, i);
-        let mut rule = 1;
-        while rule <= RULES {
-            if !meets(rule, kind, end, b) {
-                break 'records i;
+    let bad = 'records: {
+        for i in 0..n {
+            let b = read(file, i);
+            for rule in 1..=RULES {
+                if !meets(rule, kind, end, b) {
+                    break 'records i;
+                }
             }
-            rule += 1;
+            end = bucket::end(b);
         }
-        end = bucket::end(b);
-        i += 1;
+        n
     };
     bad
 }
@@ -63,41 +52,38 @@ pub fn counts(file: &[u8]) -> Contents
     requires { readings (records_of file.now) ≤ ticks }
     ensures { (result.runs ≡ runs (records_of file.now)) × (result.readings ≡ readings (records_of file.now)) }
 {
-    let n = file.len() / RECORD;
     let mut end = NOWHERE;
     let mut runs = 0;
     let mut readings = 0;
-    let mut i = 0;
-    while i < n {
+    for i in 0..file.len() / RECORD {
         let b = read(file, i);
         runs += starts_run(end, b);
         readings += b.count as usize;
         end = bucket::end(b);
-        i += 1;
     }
     Contents { runs, readings }
 }
 
 // Refusals 7, 8, 9 and 10: all that a file can be refused for is known before a slot is written.
-pub fn inspect(s: Settings, file: &[u8]) -> Inspected
+pub fn inspect(s: Settings, file: &[u8]) -> Result<Contents, Refusal>
     requires { (base_good s.base ≡ true) × (gaps_good s.kind s.gaps ≡ true) }
     ensures { result ≡ inspection (file_verdict s file.now) }
 {
     if file.len() % RECORD != 0 {
-        return Inspected::Refused(Refusal::Length);
+        return Err(Refusal::Length);
     }
     let kind = s.kind;
     let count = file.len() / RECORD;
     let place = first_fault(kind, file);
     if place < count {
-        return Inspected::Refused(Refusal::Record(place));
+        return Err(Refusal::Record(place));
     }
     let c = counts(file);
     if !runs_allowed(kind, s.gaps, c.runs) {
-        return Inspected::Refused(Refusal::Runs);
+        return Err(Refusal::Runs);
     }
     if limit(s, c.runs) < count {
-        return Inspected::Refused(Refusal::Overfull);
+        return Err(Refusal::Overfull);
     }
-    Inspected::Counts(c)
+    Ok(c)
 }

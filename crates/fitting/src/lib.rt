@@ -10,7 +10,6 @@ use listing::{Feeding, Stage};
 use notation::Line;
 use settings::is_late;
 use sound::sound;
-use trace::Answer;
 use waiting::begun;
 
 // Whether the byte ends a line and the trace is sound, which is asked unless it is known.
@@ -24,7 +23,7 @@ pub fn fits(known: bool, f: Feeding, b: u8, room: &[i64]) -> bool
         return true;
     }
     let last = f.last;
-    let Answer::Accepted(t) = last else {
+    let Ok(t) = last else {
         return false;
     };
     sound(t.state, room)
@@ -36,7 +35,7 @@ pub fn line_taken(f: Feeding, room: &mut [i64], line: &[u8]) -> Feeding
     ensures { (result, room.new) ≡ line_by f.last f room.old line.now }
 {
     let last = f.last;
-    let Answer::Accepted(t) = last else {
+    let Ok(t) = last else {
         return f;
     };
     let s = t.state;
@@ -46,7 +45,7 @@ pub fn line_taken(f: Feeding, room: &mut [i64], line: &[u8]) -> Feeding
         return line_ended(f, t, &mut *room, line);
     }
     let l = begun(f.filled, line);
-    let Line::Pair(tick, v) = l else {
+    let Some(Line::Pair(tick, v)) = l else {
         return line_ended(f, t, &mut *room, line);
     };
     let arrival = arrival::placed(s, &*room, tick);
@@ -54,7 +53,7 @@ pub fn line_taken(f: Feeding, room: &mut [i64], line: &[u8]) -> Feeding
     Feeding {
         last: answer,
         stage: Stage::Readings,
-        lines: std::num::wrapping_add_usize(f.lines, 1),
+        lines: f.lines.wrapping_add(1),
         filled: 0,
     }
 }

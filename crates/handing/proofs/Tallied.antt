@@ -6,15 +6,15 @@ use lib.IntN.{ℤ}
 use Rattle.rule.specs.declared.State.{State}
 use Rattle.rule.specs.declared.Tally.{Tally}
 use Rattle.rule.specs.Calls.{Verdict, counted, late_outcome, next_outcome}
-use Rattle.trace.specs.declared.Answer.{Answer}
 use Rattle.trace.specs.Answers.{answered, verdict}
 use Rattle.trace.proofs.Verdicts.{outcome_of}
 use Rattle.fields.specs.declared.Fields.{Fields}
 use Rattle.fields.specs.States.{state_from}
 use Rattle.plain.specs.declared.Reply.{Reply}
 use Rattle.plain.specs.Plain.{late_reply, late_tally, next_reply, next_tally, replied, replying}
+use Rattle.trace.specs.declared.Trace.{Trace}
 
-module _ (f : Fields) (s : State) (of : s ≡ state_from f) (l m : List ℤ) (a : Answer) (t u : Tally) (r : Reply) (told : r ≡ replying f a) where
+module _ (f : Fields) (s : State) (of : s ≡ state_from f) (l m : List ℤ) (a : Verdict Trace) (t u : Tally) (r : Reply) (told : r ≡ replying f a) where
   -- whichever the reading
   handed : (outcome : State → Verdict State × List ℤ) → ((a, m) ≡ answered (outcome s)) × (u ≡ counted t s.used (verdict a))
       → ((r, m) ≡ replied f (answered (outcome (state_from f)))) × (u ≡ counted t f.used (outcome (state_from f)).0)

@@ -1,30 +1,20 @@
 -- The bytes of a piece go to the caption one by one: what is left of them leads where all lead.
 use Prim.Native.Nat.{ℕ, ◌+◌, ◌≤◌, ◌<◌}
-use mathlib.Core.Path.{◌≡◌, refl, sym, ap, ◌∙◌}
+use mathlib.Core.Path.{◌≡◌, sym, ap, ◌∙◌}
 use mathlib.Core.Bool.{true, false}
 use mathlib.Core.List.{List, ◌∷◌}
 use native.Mathlib.Numerals.{add-one}
 use native.Mathlib.Omega.{arith}
 use borrow.Author.Tests.{eq-eqb, ne_eqb}
-use lib.Dec.{ltb}
-use lib.ListN.{drop, drop_of_length-le, get_or, length, length-set}
+use lib.ListN.{drop, drop_of_length-le, get_or, length}
 use lib.Seq.{drop-cons}
-use Rattle.rule.proofs.Whole.{by_test}
 use Rattle.notation.specs.Signs.{line_feed}
 use Rattle.sketching.specs.declared.Heading.{Heading}
 use Rattle.sketching.specs.Heading.{headed_from, kept}
 
 pub record Going (filled : ℕ) (caption₀ bytes caption : List ℕ) (k i : ℕ) : Type 0 where
-  pub size : length caption ≡ length caption₀
   pub inside : i ≤ length bytes
   pub goes : headed_from filled 0 caption₀ bytes ≡ headed_from k i caption (drop i bytes)
-
-pub going_start : (filled : ℕ) (caption bytes : List ℕ) → Going filled caption bytes caption filled 0
-going_start filled caption bytes = record { size = refl; inside = omega arith; goes = refl }
-
-kept_length : (k : ℕ) (c : List ℕ) (b : ℕ) → length (kept k c b).1 ≡ length c
-unfolding kept
-kept_length k c b = by_test (ltb k (length c)) (λ e. rw e (length-set c k b)) (λ e. rw e)
 
 module _ {filled : ℕ} {caption₀ bytes caption : List ℕ} {k i : ℕ} (x : Going filled caption₀ bytes caption k i) where
   next : i < length bytes → headed_from filled 0 caption₀ bytes ≡ headed_from k i caption (get_or bytes i 0 ∷ drop (i + 1) bytes)
@@ -35,7 +25,6 @@ module _ {filled : ℕ} {caption₀ bytes caption : List ℕ} {k i : ℕ} (x : G
   unfolding headed_from
   going_on h other e =
       record {
-        size = ap (λ (o : ℕ × List ℕ). length o.1) e ∙ kept_length k caption (get_or bytes i 0) ∙ x.size;
         inside = omega (arith, h);
         goes = next h ∙ rw (ne_eqb (get_or bytes i 0) line_feed other) (ap (λ (o : ℕ × List ℕ). headed_from o.0 (i + 1) o.1 (drop (i + 1) bytes)) (sym e));
       }
@@ -46,6 +35,8 @@ module _ {filled : ℕ} {caption₀ bytes caption : List ℕ} {k i : ℕ} (x : G
   going_ends h e = sym (next h ∙ rw (eq-eqb (get_or bytes i 0) line_feed e))
 
   -- the piece's end
-  pub going_rests : length bytes ≤ i → ◌≡◌ {A = Heading × List ℕ} (record { filled = k; taken = i; ended = false }, caption) (headed_from filled 0 caption₀ bytes)
+  pub going_rests : length bytes ≤ i → ◌≡◌ {A = Heading × List ℕ} (record { filled = k; taken = length bytes; ended = false }, caption) (headed_from filled 0 caption₀ bytes)
   unfolding headed_from
-  going_rests h = sym (x.goes ∙ rw (drop_of_length-le bytes h))
+  going_rests h =
+      let here : i ≡ length bytes = omega (arith, x.inside) in
+      sym (x.goes ∙ rw (drop_of_length-le bytes h) (rw here))

@@ -23,22 +23,19 @@ fn first_line(filled: usize, caption: &mut [u8], bytes: &[u8]) -> Heading
     ensures { (result, caption.new) ≡ headed_from filled 0 caption.old bytes.now }
 {
     let mut k = filled;
-    let mut i = 0;
-    while i < bytes.len() {
-        let b = bytes[i];
-        if b == b'\n' {
+    for (i, b) in bytes.iter().enumerate() {
+        if *b == b'\n' {
             return Heading {
                 filled: k,
                 taken: i + 1,
                 ended: true,
             };
         }
-        k = keep(k, &mut *caption, b);
-        i += 1;
+        k = keep(k, &mut *caption, *b);
     }
     Heading {
         filled: k,
-        taken: i,
+        taken: bytes.len(),
         ended: false,
     }
 }

@@ -10,28 +10,26 @@ use listing::{Feeding, Stage};
 use notation::Line;
 use obeying::obey;
 use rule::Refusal;
-use trace::{Answer, Trace};
+use trace::Trace;
 
-fn stage_after(l: Line) -> Stage
+fn stage_after(l: Option<Line>) -> Stage
     ensures { result ≡ stage_after l }
 {
     match l {
-        Line::Steps(_) => Stage::Steps,
-        Line::Late(_) => Stage::Late,
-        Line::Alone(_) => Stage::Readings,
-        Line::Pair(_, _) => Stage::Readings,
-        Line::Unreadable => Stage::Readings,
+        Some(Line::Steps(_)) => Stage::Steps,
+        Some(Line::Late(_)) => Stage::Late,
+        Some(Line::Alone(_) | Line::Pair(_, _)) | None => Stage::Readings,
     }
 }
 
 // One line more, answered so.
-fn answered(f: Feeding, g: Stage, a: Answer) -> Feeding
+fn answered(f: Feeding, g: Stage, a: Result<Trace, Refusal>) -> Feeding
     ensures { result ≡ answered_by f g a }
 {
     Feeding {
         last: a,
         stage: g,
-        lines: std::num::wrapping_add_usize(f.lines, 1),
+        lines: f.lines.wrapping_add(1),
         filled: 0,
     }
 }
@@ -49,7 +47,7 @@ fn line_read(f: Feeding, t: Trace, room: &mut [i64], line: &[u8]) -> Feeding
 fn too_long(f: Feeding) -> Feeding
     ensures { result ≡ too_long f }
 {
-    answered(f, Stage::Readings, Answer::Refused(Refusal::Line))
+    answered(f, Stage::Readings, Err(Refusal::Line))
 }
 
 pub fn line_ended(f: Feeding, t: Trace, room: &mut [i64], line: &[u8]) -> Feeding
@@ -66,7 +64,7 @@ pub fn byte(mut f: Feeding, room: &mut [i64], line: &mut [u8], b: u8) -> Feeding
     ensures { (result, (room.new, line.new)) ≡ byte_fed f.last f room.old line.old b }
 {
     let last = f.last;
-    let Answer::Accepted(t) = last else {
+    let Ok(t) = last else {
         return f;
     };
     if b == b'\n' {

@@ -11,8 +11,6 @@ use lib.ListN.{length, length-replicate, length-set, set, take}
 use Rattle.rule.specs.Numbers.{ticks}
 use Rattle.rule.specs.Room.{zeros}
 use Rattle.rule.proofs.Whole.{by_test}
-use Rattle.trace.specs.declared.Answer.{Answer}
-use Rattle.trace.specs.declared.Answer.TheVariants.{Accepted, Refused}
 use Rattle.trace.specs.declared.Trace.{Trace}
 use Rattle.notation.specs.Signs.{line_feed}
 use Rattle.notation.specs.Reading.{line_most, line_of}
@@ -24,6 +22,8 @@ use Rattle.listing.specs.Feeding.{Reader, byte_fed, fed, has_ended, lengthened, 
 use Rattle.listing.specs.Lists.{start}
 use Rattle.listing.proofs.Standings.{Stood, Upright, few_lines, obeyed_upright, opened_upright}
 use Rattle.listing.proofs.Listed.{Reached, byte_ends, byte_lengthens, byte_overflows, counts_on, reader}
+use Rattle.std.specs.Prelude.{Ok, Err}
+use Rattle.rule.specs.Calls.{Verdict}
 
 -- what holds of every reader that a program has
 record Going (x : Reader) : Type 0 where
@@ -45,7 +45,7 @@ record Gets (f : Feeding) (y : Reader) : Type 0 where
 
 module _ (t : Trace) (g : Stage) (n k : ℕ) (l : List ℤ) (line : List ℕ) (b : ℕ) (x : Stood t.state l g n) (wide : length line ≡ line_most) (inside : k ≤ line_most) where
   abbrev now : Feeding
-  now = reader (Accepted t) g n k
+  now = reader (Ok t) g n k
 
   line_gets : let o = line_ended now t.state l line in Gets now (o.0, (o.1, line))
   unfolding line_ended line_fed
@@ -64,24 +64,24 @@ module _ (t : Trace) (g : Stage) (n k : ℕ) (l : List ℤ) (line : List ℕ) (b
   unfolding Upright
   long_gets = record { goes = record { upright = tt; wide = wide; inside = omega arith }; on = λ e. absurd (true≢false e) }
 
-  byte_gets : Gets now (byte_fed (Accepted t) now l line b)
+  byte_gets : Gets now (byte_fed (Ok t) now l line b)
   byte_gets =
       by_test (eqb b line_feed) (λ e. subst (Gets now) (sym (byte_ends t now l line b e)) line_gets)
       (λ e.
       by_test (ltb k (length line)) (λ h. subst (Gets now) (sym (byte_lengthens t now l line b e h)) (longer_gets (ltb-true k (length line) h)))
       (λ h. subst (Gets now) (sym (byte_overflows t now l line b e h)) long_gets))
 
-any_gets : (a : Answer) (g : Stage) (n k : ℕ) (l : List ℤ) (line : List ℕ) (b : ℕ) → Going (reader a g n k, (l, line)) → Gets (reader a g n k) (byte_fed a (reader a g n k) l line b)
+any_gets : (a : Verdict Trace) (g : Stage) (n k : ℕ) (l : List ℤ) (line : List ℕ) (b : ℕ) → Going (reader a g n k, (l, line)) → Gets (reader a g n k) (byte_fed a (reader a g n k) l line b)
 unfolding Upright byte_fed
-any_gets (Refused r) g n k l line b x = record { goes = x; on = λ e. absurd (true≢false e) }
-any_gets (Accepted t) g n k l line b x = byte_gets t g n k l line b x.upright x.wide x.inside
+any_gets (Err r) g n k l line b x = record { goes = x; on = λ e. absurd (true≢false e) }
+any_gets (Ok t) g n k l line b x = byte_gets t g n k l line b x.upright x.wide x.inside
 
 -- an end stays one
-ended_stays : (bs : List ℕ) (a : Answer) (g : Stage) (n k : ℕ) (l : List ℤ) (line : List ℕ) → has_ended a ≡ true → has_ended (fed (reader a g n k, (l, line)) bs).0.last ≡ true
+ended_stays : (bs : List ℕ) (a : Verdict Trace) (g : Stage) (n k : ℕ) (l : List ℤ) (line : List ℕ) → has_ended a ≡ true → has_ended (fed (reader a g n k, (l, line)) bs).0.last ≡ true
 unfolding fed byte_fed
 ended_stays [] a g n k l line e = e
-ended_stays (b ∷ bs) (Refused r) g n k l line e = ended_stays bs (Refused r) g n k l line e
-ended_stays (b ∷ bs) (Accepted t) g n k l line e = absurd (false≢true e)
+ended_stays (b ∷ bs) (Err r) g n k l line e = ended_stays bs (Err r) g n k l line e
+ended_stays (b ∷ bs) (Ok t) g n k l line e = absurd (false≢true e)
 
 -- any bytes more
 record Came (x : Reader) (many : ℕ) (y : Reader) : Type 0 where
@@ -108,10 +108,10 @@ start_goes : Going start
 unfolding start
 start_goes = record { upright = opened_upright (in_order default_steps) (zeros room_size) Stage.Nothing 0 (omega arith); wide = length-replicate {A = ℕ} line_most 0; inside = omega arith }
 
-few : (a : Answer) (l : List ℤ) (g : Stage) (n : ℕ) → Upright a l g n → has_ended a ≡ false → n ≤ ticks + 2
+few : (a : Verdict Trace) (l : List ℤ) (g : Stage) (n : ℕ) → Upright a l g n → has_ended a ≡ false → n ≤ ticks + 2
 unfolding Upright
-few (Refused r) l g n up e = absurd (true≢false e)
-few (Accepted t) l g n up e = few_lines up
+few (Err r) l g n up e = absurd (true≢false e)
+few (Ok t) l g n up e = few_lines up
 
 -- a piece with a byte in it that ends nothing
 pub reached_passes : {f f' : Feeding} {l l' : List ℤ} {line line' : List ℕ} (bytes : List ℕ) → Reached f l line → ◌≡◌ {A = Reader} (f', (l', line')) (fed (f, (l, line)) bytes) → 1 ≤ length bytes → has_ended f'.last ≡ false

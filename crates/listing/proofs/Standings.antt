@@ -9,7 +9,7 @@ use mir.Syntax.{w32}
 use mir.Val.{SFits}
 use Rattle.rule.specs.declared.Opening.{Opening}
 use Rattle.rule.specs.declared.State.{State}
-use Rattle.rule.specs.Calls.{Verdict, accepted, kept, late, opened, refused, traced}
+use Rattle.rule.specs.Calls.{Verdict, kept, late, opened, traced}
 use Rattle.rule.specs.Numbers.{ticks, word}
 use Rattle.rule.specs.Room.{sound, table_of}
 use Rattle.rule.specs.Table.{Table, accept, readings}
@@ -18,15 +18,16 @@ use Rattle.rule.proofs.Whole.{by_test}
 use Rattle.rooms.specs.Steps.{Ready}
 use Rattle.rooms.proofs.Sounding.{sound_facts, sound_readings}
 use Rattle.rooms.proofs.Taking.{taken_sound, taken_state}
-use Rattle.trace.specs.declared.Answer.{Answer}
-use Rattle.trace.specs.declared.Answer.TheVariants.{Accepted, Refused}
 use Rattle.trace.specs.Answers.{answer}
 use Rattle.rooms.specs.Left.{LeavesSound, LeftBy}
 use Rattle.rooms.proofs.Leaving.{late_either, next_either, open_either, open_leaves}
 use Rattle.notation.specs.declared.Line.{Line}
+use Rattle.std.proofs.Common.{Option, Some, None}
 use Rattle.notation.proofs.Ranges.{Ranged}
 use Rattle.listing.specs.declared.Stage.{Stage}
 use Rattle.listing.specs.Listing.{obeyed, stage_after}
+use Rattle.trace.specs.declared.Trace.{Trace}
+use Rattle.std.specs.Prelude.{Ok, Err}
 
 -- the most lines that such a stage and so many readings can have
 abbrev pub most_lines : Stage → ℕ → ℕ
@@ -40,9 +41,9 @@ pub record Stood (s : State) (l : List ℤ) (g : Stage) (n : ℕ) : Type 0 where
   pub few : n ≤ most_lines g s.readings
 
 -- so it is where the last answer is no refusal
-unfoldable pub Upright : Answer → List ℤ → Stage → ℕ → Type 0
-Upright (Refused r) l g n = Unit {0}
-Upright (Accepted t) l g n = Stood t.state l g n
+unfoldable pub Upright : Verdict Trace → List ℤ → Stage → ℕ → Type 0
+Upright (Err r) l g n = Unit {0}
+Upright (Ok t) l g n = Stood t.state l g n
 
 abbrev Left : Verdict State × List ℤ → Stage → ℕ → Type 0
 Left o g n = Upright (answer o.0) o.1 g n
@@ -68,11 +69,11 @@ module _ (s : State) (l : List ℤ) (g : Stage) (n : ℕ) (x : Stood s l g n) wh
   abbrev Goes : Verdict Table → Type 0
   Goes v = Left (traced s.settings l v) Stage.Readings (suc n)
 
-  refused_goes : (r : _) → Goes (refused r)
+  refused_goes : (r : _) → Goes (Err r)
   unfolding traced answer Upright
   refused_goes r = tt
 
-  taken_goes : (at k tick : ℕ) (v : ℤ) → Ready s l at k tick v → SFits w32 v → tick < word → Goes (accepted (accept s.settings (table_of s l) tick v))
+  taken_goes : (at k tick : ℕ) (v : ℤ) → Ready s l at k tick v → SFits w32 v → tick < word → Goes (Ok (accept s.settings (table_of s l) tick v))
   unfolding traced answer Upright
   taken_goes at k tick v r fits small =
       record {
@@ -80,21 +81,21 @@ module _ (s : State) (l : List ℤ) (g : Stage) (n : ℕ) (x : Stood s l g n) wh
         few = omega (arith, x.few, lines_at_most g s.readings, ap (λ (z : State). z.readings) (taken_state s l at k tick v r fits small));
       }
 
-pub obeyed_upright : (g : Stage) (s : State) (l : List ℤ) (n : ℕ) (m : Line) → Ranged m → Stood s l g n → let o = obeyed g s l m in Upright o.0 o.1 (stage_after m) (suc n)
+pub obeyed_upright : (g : Stage) (s : State) (l : List ℤ) (n : ℕ) (m : Option Line) → Ranged m → Stood s l g n → let o = obeyed g s l m in Upright o.0 o.1 (stage_after m) (suc n)
 unfolding obeyed Upright Ranged
-obeyed_upright Stage.Nothing s l n (Line.Steps b) ranged x = opened_upright _ l Stage.Steps (suc n) (omega (arith, x.few))
-obeyed_upright Stage.Steps s l n (Line.Steps b) ranged x = tt
-obeyed_upright Stage.Late s l n (Line.Steps b) ranged x = tt
-obeyed_upright Stage.Readings s l n (Line.Steps b) ranged x = tt
-obeyed_upright Stage.Nothing s l n (Line.Late k) ranged x = opened_upright _ l Stage.Late (suc n) (omega (arith, x.few))
-obeyed_upright Stage.Steps s l n (Line.Late k) ranged x = opened_upright _ l Stage.Late (suc n) (omega (arith, x.few))
-obeyed_upright Stage.Late s l n (Line.Late k) ranged x = tt
-obeyed_upright Stage.Readings s l n (Line.Late k) ranged x = tt
-obeyed_upright g s l n (Line.Alone v) ranged x =
+obeyed_upright Stage.Nothing s l n (Some (Line.Steps b)) ranged x = opened_upright _ l Stage.Steps (suc n) (omega (arith, x.few))
+obeyed_upright Stage.Steps s l n (Some (Line.Steps b)) ranged x = tt
+obeyed_upright Stage.Late s l n (Some (Line.Steps b)) ranged x = tt
+obeyed_upright Stage.Readings s l n (Some (Line.Steps b)) ranged x = tt
+obeyed_upright Stage.Nothing s l n (Some (Line.Late k)) ranged x = opened_upright _ l Stage.Late (suc n) (omega (arith, x.few))
+obeyed_upright Stage.Steps s l n (Some (Line.Late k)) ranged x = opened_upright _ l Stage.Late (suc n) (omega (arith, x.few))
+obeyed_upright Stage.Late s l n (Some (Line.Late k)) ranged x = tt
+obeyed_upright Stage.Readings s l n (Some (Line.Late k)) ranged x = tt
+obeyed_upright g s l n (Some (Line.Alone v)) ranged x =
     by_test (late s.settings.kind) (λ e. rw e tt)
     (λ e. rw e (next_either s l v (Goes s l g n x) (refused_goes s l g n x) (λ _ r small. taken_goes s l g n x _ _ _ v r (signed_fits v ranged) small)))
-obeyed_upright g s l n (Line.Pair tick v) ranged x =
+obeyed_upright g s l n (Some (Line.Pair tick v)) ranged x =
     by_test (late s.settings.kind)
     (λ e. rw e (late_either s l v (Goes s l g n x) (refused_goes s l g n x) tick (λ _ _ r small. taken_goes s l g n x _ _ _ v r (signed_fits v ranged) small)))
     (λ e. rw e tt)
-obeyed_upright g s l n Line.Unreadable ranged x = tt
+obeyed_upright g s l n None ranged x = tt

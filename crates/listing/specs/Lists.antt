@@ -1,12 +1,13 @@
 -- What the program promises of any input, however it is cut.
-use Rattle.std.specs.Prelude.{ℕ, ◌≡◌, true, List, [], ◌∷◌, ◌++◌, ℤ, length, replicate}
+use Rattle.std.specs.Prelude.{ℕ, ◌≡◌, true, List, [], ◌∷◌, ◌++◌, ℤ, length, replicate, Ok}
 use Rattle.rule.specs.declared.Kind.TheVariants.{InOrder, Late}
 use Rattle.rule.specs.declared.Size.TheVariants.{Steps}
 use Rattle.rule.specs.declared.State.{State}
-use Rattle.rule.specs.Calls.{accepted, opened}
+use Rattle.rule.specs.Calls.{opened}
 use Rattle.rule.specs.Room.{zeros}
 use Rattle.trace.specs.Answers.{answered}
 use Rattle.notation.specs.declared.Line.{Line}
+use Rattle.std.specs.Prelude.{Option, Some, None}
 use Rattle.notation.specs.Reading.{line_most}
 use Rattle.listing.specs.declared.Feeding.{Feeding}
 use Rattle.listing.specs.declared.Stage.{Stage}
@@ -39,9 +40,9 @@ pub record Lists : Type 0 where
   pub default : (i : List ℕ) → let x = read_all (begun 64 (zeros room_size)) (lines i) in output i ≡ shown x.last x.count x.room
   pub opens_first : (b : ℕ) (l : List ℤ) → let o = answered (opened (record { kind = InOrder; size = Steps b; gaps = 0; edition = 1 }) l) in begun b l ≡ record { last = o.0; room = o.1; stage = Stage.Nothing; count = 0 }
   -- `steps B` opens with that B; and `late K` behind it, or first, where it is 64, opens late with the same B
-  pub by_steps : (s : State) (l : List ℤ) (b : ℕ) → obeyed Stage.Nothing s l (Line.Steps b) ≡ answered (opened (record { kind = InOrder; size = Steps b; gaps = 0; edition = 1 }) l)
-  pub late_by_steps : (g : Stage) (b k : ℕ) (l m : List ℤ) (s : State) → opened (record { kind = InOrder; size = Steps b; gaps = 0; edition = 1 }) l ≡ (accepted s, m) → late_may g ≡ true
-      → obeyed g s m (Line.Late k) ≡ answered (opened (record { kind = Late; size = Steps b; gaps = k; edition = 1 }) m)
+  pub by_steps : (s : State) (l : List ℤ) (b : ℕ) → obeyed Stage.Nothing s l (Some (Line.Steps b)) ≡ answered (opened (record { kind = InOrder; size = Steps b; gaps = 0; edition = 1 }) l)
+  pub late_by_steps : (g : Stage) (b k : ℕ) (l m : List ℤ) (s : State) → opened (record { kind = InOrder; size = Steps b; gaps = 0; edition = 1 }) l ≡ (Ok s, m) → late_may g ≡ true
+      → obeyed g s m (Some (Line.Late k)) ≡ answered (opened (record { kind = Late; size = Steps b; gaps = k; edition = 1 }) m)
   -- a line has at most 64 bytes
   pub longest : line_most ≡ 64
   -- what is shown is the listing of the input

@@ -2,7 +2,8 @@
 
 #![tactic(auto)]
 
-use trace::Answer;
+use rule::Refusal;
+use trace::Trace;
 
 // The edition of published pages.
 pub const EDITION: usize = 1;
@@ -19,7 +20,7 @@ pub enum Stage {
 // The last answer, which lines were read, how many, and how many bytes of the line begun.
 #[derive(Clone, Copy)]
 pub struct Feeding {
-    pub last: Answer,
+    pub last: Result<Trace, Refusal>,
     pub stage: Stage,
     pub lines: usize,
     pub filled: usize,

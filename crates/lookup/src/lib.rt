@@ -12,9 +12,9 @@ use slots::read;
 use sound::sound;
 
 pub(crate) fn found_in(b: Bucket) -> Found
-    ensures { result ≡ found (some b) }
+    ensures { Ok result ≡ found (some b) }
 {
-    Found::Level {
+    Found {
         level: bucket::level(b),
         error: bucket::error(b),
         least: b.least,
@@ -23,18 +23,18 @@ pub(crate) fn found_in(b: Bucket) -> Found
 }
 
 // The holding bucket's level, error, least and largest.
-pub fn lookup(s: State, room: &[i64], tick: u32) -> Found
+pub fn lookup(s: State, room: &[i64], tick: u32) -> Result<Found, Refusal>
     ensures { result ≡ lookup_outcome s room.now tick }
 {
     if !sound(s, room) {
-        return Found::Refused(Refusal::Unsound);
+        return Err(Refusal::Unsound);
     }
     if TICKS <= tick as usize {
-        return Found::Refused(Refusal::Tick);
+        return Err(Refusal::Tick);
     }
     let at = find(room, s.used, tick);
     if !held(room, s.used, at, tick) {
-        return Found::Refused(Refusal::Absent);
+        return Err(Refusal::Absent);
     }
-    found_in(read(room, at - 1))
+    Ok(found_in(read(room, at - 1)))
 }

@@ -20,17 +20,13 @@ pub fn insert_merged(room: &mut [i64], used: usize, at: usize, b: Bucket, i: usi
 {
     if i + 1 < at {
         merge_before(&mut *room, used, at, b, i);
-        return;
-    }
-    if i < at {
+    } else if i < at {
         merge_left(&mut *room, used, i, b);
-        return;
-    }
-    if i == at {
+    } else if i == at {
         merge_right(&mut *room, used, at, b);
-        return;
+    } else {
+        merge_after(&mut *room, used, at, b, i);
     }
-    merge_after(&mut *room, used, at, b, i);
 }
 
 // The one before the new bucket, and the new bucket: no slot moves.

@@ -1,7 +1,7 @@
 // Slots moved by one. Nothing else knows how slots are moved: `down` and `up` are lent the part of the room in which slots move, and store each of its numbers once.
 // Each function asks for numbers that are there, `insert` for slots that hold buckets, as they are in a sound trace.
 
-#![tactic(auto)]
+#![tactic(auto, unfolding(rooms::specs::Slots::put))]
 
 ghost use Rattle.std.specs.Prelude.{◌≡◌, ◌++◌, ◌*◌, ◌-◌, ◌≤◌, suc, length, take, drop};
 ghost use Rattle.rule.specs.Numbers.{slot_width};
@@ -16,11 +16,7 @@ pub fn clear(room: &mut [i64], from: usize, to: usize)
     requires { (from ≤ to) × (to ≤ length room.old) }
     ensures { room.new ≡ take from room.old ++ (zeros (to - from) ++ drop to room.old) }
 {
-    let mut i = from;
-    while i < to {
-        room[i] = 0;
-        i += 1;
-    }
+    room[from..to].fill(0);
 }
 
 // The part's first slot goes: those behind it move down by one, and the bucket follows them.
@@ -29,11 +25,7 @@ pub fn down(part: &mut [i64], b: Bucket)
     ensures { part.new ≡ drop slot_width part.old ++ numbers b }
 {
     let last = part.len() - SLOT;
-    let mut i = 0;
-    while i < last {
-        part[i] = part[i + SLOT];
-        i += 1;
-    }
+    part.copy_within(SLOT.., 0);
     write(&mut part[last..], 0, b);
 }
 
@@ -42,11 +34,8 @@ pub fn up(part: &mut [i64], b: Bucket)
     requires { slot_width ≤ length part.old }
     ensures { part.new ≡ numbers b ++ take (length part.old - slot_width) part.old }
 {
-    let mut i = part.len() - SLOT;
-    while 0 < i {
-        i -= 1;
-        part[i + SLOT] = part[i];
-    }
+    let last = part.len() - SLOT;
+    part.copy_within(..last, SLOT);
     write(&mut *part, 0, b);
 }
 

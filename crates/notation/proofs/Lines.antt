@@ -1,30 +1,29 @@
 -- The loops over a line's bytes go on from what is left of them, and numbers stay within 64 bits.
 use Prim.Native.Nat.{ℕ, suc, ◌+◌, ◌*◌, ◌-◌, ◌≤◌, ◌<◌, ◌^◌}
-use mathlib.Core.Path.{◌≡◌, refl, ap}
-use mathlib.Core.Bool.{true, false, ◌&&◌}
+use mathlib.Core.Path.{◌≡◌, refl, ap, sym, ◌∙◌}
+use mathlib.Core.Bool.{true, false, false≢true, ◌&&◌}
 use mathlib.Core.List.{List, [], ◌∷◌}
 use native.Mathlib.Nat.{pow-le-pow_right, pow-succ'}
 use native.Mathlib.Numerals.{add-one}
 use native.Mathlib.Omega.{arith}
-use borrow.Author.Tests.{eq-eqb, leb-true, ne_eqb}
-use lib.Dec.{eqb, leb, lit<}
-use lib.IntN.{ℤ, pos}
+use borrow.Author.Tests.{eq-eqb, eqb-true, leb-true, ltb-false, ltb-true, ne_eqb}
+use lib.Dec.{eqb, leb, ltb, lit<}
+use lib.IntN.{ℤ, pos, negsuc, nat_abs}
 use lib.ListN.{length, get_or, take, drop, drop_of_length-le, length-drop}
 use lib.Seq.{drop-cons, take_all}
-use lib.Signed.{le_z, lt_z, mag}
-use mir.Syntax.{w64}
-use mir.Val.{of_z, to_z}
-use Rattle.rule.specs.Room.{within}
-use Rattle.rule.proofs.Ruling.{and_both, and_left, and_right}
-use Rattle.rule.proofs.Signed.{read}
+use mir.Syntax.{w32}
+use Rattle.std.proofs.Common.{Some, None, ◌==◌, position, Result, Ok, Err, FitsSigned}
+use Rattle.std.specs.Char.{is_ascii_digit}
+use Rattle.std.specs.List.{position_or_len}
+use Rattle.std.specs.Int.{FitsUnsignedBits}
+use Rattle.std.specs.Result.{OkIff, result_ok}
+use Rattle.std.proofs.lemmas.Option.{cond_some, none-some}
+use Rattle.rule.specs.Room.{signed, unsigned, within}
+use Rattle.rule.proofs.Ruling.{and_left, and_right}
+use Rattle.rule.proofs.Signed.{fits_signed, fits_unsigned, signed_fits, unsigned_fits}
 use Rattle.rule.proofs.Whole.{by_test, whole, down, one_side}
-use Rattle.notation.specs.declared.Number.{Number}
-use Rattle.notation.specs.Reading.{digits, digits_after, first_space, is_digit, negated, number, same}
+use Rattle.notation.specs.Reading.{digits, digits_after, first_space, is_digit, negated, number, same, signed_field, unsigned_field}
 use Rattle.notation.specs.Signs.{minus, nine, nought, space}
-
--- what is unreadable stands for no number
-pub not_whole : {z : ℤ} → Number.Unreadable ≡ Number.Whole z → ⊥
-not_whole e = let f : ◌≡◌ {A = ℕ} 0 1 = cc in omega arith
 
 -- the part from a place to the end
 pub rest : (l : List ℕ) (a : ℕ) → take (length l - a) (drop a l) ≡ drop a l
@@ -32,17 +31,21 @@ rest l a = take_all (length l - a) (drop a l) (omega (arith, length-drop a l))
 
 -- ---- digits
 
+pub ascii_digit : (b : ℕ) → is_ascii_digit b ≡ is_digit b
+unfolding is_digit
+ascii_digit b = refl
+
 module _ (s : List ℕ) (i n : ℕ) where
   pub digits_next : i < length s → is_digit (get_or s i 0) ≡ true
       → digits_after n (drop i s) ≡ digits_after (n * 10 + (get_or s i 0 - nought)) (drop (i + 1) s)
   unfolding digits_after
   digits_next h e = rw (drop-cons s i 0 h, e, add-one)
 
-  pub digits_stop : i < length s → is_digit (get_or s i 0) ≡ false → digits_after n (drop i s) ≡ Number.Unreadable
+  pub digits_stop : i < length s → is_digit (get_or s i 0) ≡ false → digits_after n (drop i s) ≡ None
   unfolding digits_after
   digits_stop h e = rw (drop-cons s i 0 h, e)
 
-  pub digits_done : length s ≤ i → digits_after n (drop i s) ≡ Number.Whole (pos n)
+  pub digits_done : length s ≤ i → digits_after n (drop i s) ≡ Some (pos n)
   unfolding digits_after
   digits_done h = rw (drop_of_length-le s {i = i} h)
 
@@ -57,94 +60,93 @@ unfolding is_digit
 digit_range b h =
     (leb-true nought b (and_left (leb nought b) (leb b nine) h), leb-true b nine (and_right (leb nought b) (leb b nine) h))
 
-after_positive : (n : ℕ) (l : List ℕ) (z : ℤ) → digits_after n l ≡ Number.Whole z → down z ≡ 0
+after_positive : (n : ℕ) (l : List ℕ) (z : ℤ) → digits_after n l ≡ Some z → down z ≡ 0
 unfolding digits_after
 after_positive n [] z e = let f : pos n ≡ z = cc in omega (whole, one_side z)
 after_positive n (b ∷ l) z e =
     by_test (is_digit b) (λ d. after_positive (n * 10 + (b - nought)) l z (rw d at e))
-    (λ d. absurd (not_whole (rw d at e)))
+    (λ d. absurd (none-some _ (rw d at e)))
 
 -- digits stand for no number below 0
-pub digits_positive : (l : List ℕ) (z : ℤ) → digits l ≡ Number.Whole z → down z ≡ 0
+pub digits_positive : (l : List ℕ) (z : ℤ) → digits l ≡ Some z → down z ≡ 0
 unfolding digits
 digits_positive l z e =
     by_test (leb 1 (length l) && leb (length l) 10) (λ d. after_positive 0 l z (rw d at e))
-    (λ d. absurd (not_whole (rw d at e)))
+    (λ d. absurd (none-some _ (rw d at e)))
 
 -- ---- the sign
 
-pub number_none : (s : List ℕ) → length s ≡ 0 → number s ≡ Number.Unreadable
-unfolding number
-number_none [] h = refl
-number_none (b ∷ s) h = absurd (omega arith)
-
-pub number_plain : (s : List ℕ) → (get_or s 0 0 ≡ minus → ⊥) → number s ≡ digits s
+pub number_plain : (s : List ℕ) → (1 ≤ length s → get_or s 0 0 ≡ minus → ⊥) → number s ≡ digits s
 unfolding number digits
 number_plain [] h = refl
-number_plain (b ∷ s) h = rw (ne_eqb b minus h)
+number_plain (b ∷ s) h = rw (ne_eqb b minus (h (omega arith)))
 
-pub number_minus : (s : List ℕ) → get_or s 0 0 ≡ minus → number s ≡ negated (digits (drop 1 s))
+pub number_minus : (s : List ℕ) → get_or s 0 0 ≡ minus → number s ≡ negated (digits (take (length s - 1) (drop 1 s)))
 unfolding number
 number_minus [] h = absurd (omega arith)
-number_minus (b ∷ s) h = rw (eq-eqb b minus h)
+number_minus (b ∷ s) h = rw (rest (b ∷ s) 1, eq-eqb b minus h)
 
 -- ---- the first space
-
-module _ (s : List ℕ) (i : ℕ) where
-  pub space_next : i < length s → (get_or s i 0 ≡ space → ⊥) → i + first_space (drop i s) ≡ i + 1 + first_space (drop (i + 1) s)
-  unfolding first_space
-  space_next h e = rw (drop-cons s i 0 h, ne_eqb (get_or s i 0) space e, add-one) (omega arith)
-
-  pub space_here : i < length s → get_or s i 0 ≡ space → i + first_space (drop i s) ≡ i
-  unfolding first_space
-  space_here h e = rw (drop-cons s i 0 h, eq-eqb (get_or s i 0) space e) (omega arith)
-
-  pub space_none : length s ≤ i → i + first_space (drop i s) ≡ i
-  unfolding first_space
-  space_none h = rw (drop_of_length-le s {i = i} h) (omega arith)
 
 pub space_within : (s : List ℕ) → first_space s ≤ length s
 unfolding first_space
 space_within [] = omega arith
 space_within (b ∷ s) = by_test (eqb b space) (λ e. rw e (omega arith)) (λ e. rw e (omega (arith, space_within s)))
 
+space_place : (l : List ℕ) → position_or_len (λ b. b == space) l ≡ first_space l
+unfolding first_space
+space_place [] = refl
+space_place (b ∷ l) = by_test (eqb b space) (λ e. rw e) (λ e. rw (e, space_place l) (omega arith))
+
+pub space_found : (l : List ℕ) (k : ℕ) → position (λ b. b == space) l ≡ Some k → (first_space l ≡ k) × (k < length l)
+space_found l k e =
+    let r = cond_some _ _ k e in
+    (sym (space_place l) ∙ r.1, omega (arith, ltb-true (position_or_len (λ b. b == space) l) (length l) r.0, r.1))
+
+pub spaceless : (l : List ℕ) → position (λ b. b == space) l ≡ None → first_space l ≡ length l
+spaceless l e =
+    by_test (ltb (first_space l) (length l)) (λ t. absurd (none-some (first_space l) (sym e ∙ rw (space_place l, t))))
+    (λ t. omega (arith, ltb-false (first_space l) (length l) t, space_within l))
+
 -- ---- two words
 
-pub same_lengths : (a b : List ℕ) → (length a ≡ length b → ⊥) → same a b ≡ false
+pub same_word : (x y : List ℕ) → same x y ≡ true → x ≡ y
 unfolding same
-same_lengths [] [] h = absurd (h refl)
-same_lengths [] (y ∷ b) h = refl
-same_lengths (x ∷ a) [] h = refl
-same_lengths (x ∷ a) (y ∷ b) h = by_test (eqb x y) (λ e. rw (e, same_lengths a b (λ e. h (ap suc e)))) (λ e. rw e)
+same_word [] [] e = refl
+same_word [] (b ∷ y) e = absurd (false≢true e)
+same_word (a ∷ x) [] e = absurd (false≢true e)
+same_word (a ∷ x) (b ∷ y) e = rw (eqb-true a b (and_left (eqb a b) (same x y) e), same_word x y (and_right (eqb a b) (same x y) e))
 
-pub same_done : (a b : List ℕ) (i : ℕ) → length a ≤ i → length b ≤ i → same (drop i a) (drop i b) ≡ true
-unfolding same
-same_done a b i h g = rw (drop_of_length-le a {i = i} h, drop_of_length-le b {i = i} g)
+pub other_word : (x y : List ℕ) → (x ≡ y → ⊥) → same x y ≡ false
+other_word x y h = by_test (same x y) (λ e. absurd (h (same_word x y e))) (λ e. e)
 
-module _ (a b : List ℕ) (i : ℕ) (in-a : i < length a) (in_b : i < length b) where
-  pub same_next : get_or a i 0 ≡ get_or b i 0 → same (drop i a) (drop i b) ≡ same (drop (i + 1) a) (drop (i + 1) b)
-  unfolding same
-  same_next e = rw (drop-cons a i 0 in-a, drop-cons b i 0 in_b, eq-eqb (get_or a i 0) (get_or b i 0) e, add-one)
+-- the bytes of l from the place i on are those of w
+abbrev pub EachIs : List ℕ → List ℕ → ℕ → Type 0
+EachIs [] l i = Unit {0}
+EachIs (b ∷ w) l i = (get_or l i 0 ≡ b) × EachIs w l (suc i)
 
-  pub same_stop : (get_or a i 0 ≡ get_or b i 0 → ⊥) → same (drop i a) (drop i b) ≡ false
-  unfolding same
-  same_stop e = rw (drop-cons a i 0 in-a, drop-cons b i 0 in_b, ne_eqb (get_or a i 0) (get_or b i 0) e)
+each_behind : (w : List ℕ) (b : ℕ) (l : List ℕ) (i : ℕ) → EachIs w (b ∷ l) (suc i) → EachIs w l i
+each_behind [] b l i h = tt
+each_behind (c ∷ w) b l i h = (h.0, each_behind w b l (suc i) h.1)
+
+pub each_same : (l w : List ℕ) → length l ≡ length w → EachIs w l 0 → l ≡ w
+each_same [] [] n h = refl
+each_same [] (c ∷ w) n h = absurd (omega arith)
+each_same (b ∷ l) [] n h = absurd (omega arith)
+each_same (b ∷ l) (c ∷ w) n h = rw (h.0, each_same l w (omega arith) (each_behind w b l 0 h.1))
 
 -- ---- ranges
 
--- what tests of z show of a range, made on its bits
-module _ (low high z : ℤ) (fits : mag z < 2 ^ 63) where
-  pub below_range : lt_z (to_z w64 (of_z w64 z)) low ≡ true → within low high z ≡ false
-  unfolding within
-  below_range h = let e : le_z low z ≡ false = omega (whole, rw (read w64 z fits) at h) in rw e
+-- what a conversion of z to 32 bits answers
+module _ {E : Type 0} where
+  pub tried_unsigned : (z : ℤ) (r : Result ℕ E) → OkIff r (FitsUnsignedBits 32 z) (nat_abs z) → result_ok r ≡ unsigned_field (Some z)
+  unfolding unsigned_field within
+  tried_unsigned (pos n) (Ok x) h = rw (h.1, fits_unsigned n h.0)
+  tried_unsigned (pos n) (Err e) h = by_test (unsigned (pos n)) (λ t. absurd (h (omega (arith, (unsigned_fits (pos n) t).1)))) (λ t. rw t)
+  tried_unsigned (negsuc n) (Ok x) h = absurd h.0
+  tried_unsigned (negsuc n) (Err e) h = refl
 
-  pub above_range : lt_z (to_z w64 (of_z w64 z)) low ≡ false → le_z high (to_z w64 (of_z w64 z)) ≡ true → within low high z ≡ false
-  unfolding within
-  above_range g h =
-      let d : le_z low z ≡ true = omega (whole, rw (read w64 z fits) at g) in
-      let e : lt_z z high ≡ false = omega (whole, rw (read w64 z fits) at h) in rw (d, e)
-
-  pub in_range : lt_z (to_z w64 (of_z w64 z)) low ≡ false → le_z high (to_z w64 (of_z w64 z)) ≡ false → within low high z ≡ true
-  unfolding within
-  in_range g h =
-      and_both {a = le_z low z} {b = lt_z z high} (omega (whole, rw (read w64 z fits) at g)) (omega (whole, rw (read w64 z fits) at h))
+  pub tried_signed : (z : ℤ) (r : Result ℤ E) → OkIff r (FitsSigned w32 z) z → result_ok r ≡ signed_field (Some z)
+  unfolding signed_field
+  tried_signed z (Ok x) h = rw (h.1, fits_signed z h.0)
+  tried_signed z (Err e) h = by_test (signed z) (λ t. absurd (h (signed_fits z t))) (λ t. rw t)

@@ -10,38 +10,28 @@ ghost use Rattle.listing.specs.Listing.{late_may, obeyed, steps_may, unreadable}
 use listing::{EDITION, Stage};
 use notation::Line;
 use rule::{Opening, Refusal, Size};
-use trace::{Answer, Trace};
+use trace::Trace;
 
 fn steps_may(g: Stage) -> bool
     ensures { result ≡ steps_may g }
 {
-    match g {
-        Stage::Nothing => true,
-        Stage::Steps => false,
-        Stage::Late => false,
-        Stage::Readings => false,
-    }
+    matches!(g, Stage::Nothing)
 }
 
 fn late_may(g: Stage) -> bool
     ensures { result ≡ late_may g }
 {
-    match g {
-        Stage::Nothing => true,
-        Stage::Steps => true,
-        Stage::Late => false,
-        Stage::Readings => false,
-    }
+    matches!(g, Stage::Nothing | Stage::Steps)
 }
 
 // A header opens the trace anew, where it may stand.
-fn header(may: bool, named: Opening, room: &mut [i64]) -> Answer
+fn header(may: bool, named: Opening, room: &mut [i64]) -> Result<Trace, Refusal>
     ensures { (result, room.new) ≡ cond may (answered (opened named room.old)) (unreadable room.old) }
 {
     if may {
         Trace::open(named, room)
     } else {
-        Answer::Refused(Refusal::Line)
+        Err(Refusal::Line)
     }
 }
 
@@ -55,33 +45,33 @@ fn is_late(t: Trace) -> bool
 }
 
 // What a line does, by the lines before it.
-pub fn obey(g: Stage, t: Trace, room: &mut [i64], l: Line) -> Answer
+pub fn obey(g: Stage, t: Trace, room: &mut [i64], l: Option<Line>) -> Result<Trace, Refusal>
     ensures { (result, room.new) ≡ obeyed g t.state room.old l }
 {
     let late = is_late(t);
     match l {
-        Line::Steps(b) => header(
+        Some(Line::Steps(b)) => header(
             steps_may(g),
             openings::in_order(Size::Steps(b as usize), EDITION),
             room,
         ),
-        Line::Late(k) => header(
+        Some(Line::Late(k)) => header(
             late_may(g),
             openings::late(Size::Base(t.state.settings.base), k as usize, EDITION),
             room,
         ),
-        Line::Alone(v) => {
+        Some(Line::Alone(v)) => {
             if late {
-                return Answer::Refused(Refusal::Line);
+                return Err(Refusal::Line);
             }
             t.next(room, v)
         }
-        Line::Pair(tick, v) => {
+        Some(Line::Pair(tick, v)) => {
             if late {
                 return t.late(room, tick, v);
             }
-            Answer::Refused(Refusal::Line)
+            Err(Refusal::Line)
         }
-        Line::Unreadable => Answer::Refused(Refusal::Line),
+        None => Err(Refusal::Line),
     }
 }

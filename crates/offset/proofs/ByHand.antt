@@ -17,7 +17,7 @@ use Rattle.rule.specs.Table.{ahead, accept, cheaper, cheapest, choice, holding, 
 use Rattle.rule.specs.Rules.{broken, equal, fault_at, first_false, first_fault, follows, is_whole, place_or, ruled, rules}
 use Rattle.rule.specs.Room.{all_of, all_zero, bounded, clauses, edition_good, flat, gaps_good, laid, ranged, rest_zero, roomy, runs_allowed, signed, slot, slot_ranged, slots, sound, within, zeros}
 use Rattle.rule.specs.Bytes.{bits, bytes, reading, record_at, records, records_of, saved, saved_record, word_at}
-use Rattle.rule.specs.Calls.{admitted, base_of, checked, counted, file_verdict, found, found_of, gaps_kept, grown, is_held, late, late_verdict, lookup_outcome, measured, next_verdict, onward, size_good, traced, worst_outcome, write_verdict, wrote}
+use Rattle.rule.specs.Calls.{admitted, base_of, checked, counted, file_verdict, found, found_of, gaps_kept, grown, is_held, late, late_verdict, lookup_outcome, next_verdict, onward, size_good, traced, worst_outcome, write_verdict, wrote}
 use Rattle.series.specs.Counts.{or_counted, tallied}
 use Rattle.series.specs.Series.{fed_from, or_end, timed}
 use Rattle.over.specs.Search.{first_over, over, search_outcome, sought, sought_of, touches}
@@ -66,7 +66,7 @@ fed_ends d v e f =
     each (nexts_too v e f) (each (lates_too 9 v e f) (each (nexts_many_too (v ∷ []) fit) (each (lates_many_too (9 ∷ []) (v ∷ []) fit) none)))
 
 pub by_hand : ByHand
-unfolding logger.after frame_at frames gone_on higher newest replay_verdict replayed signed_turn tick_from wrapped bytes_of played recount distance larger lesser middle accept ahead weight cheaper cheapest choice holding holds insert last_end limit_over merge merge_at merge_of readings runs runs_after settle settle_in worst broken equal fault_at first_false first_fault follows is_whole place_or ruled rules all_of all_zero bounded clauses edition_good flat gaps_good laid ranged rest_zero roomy runs_allowed slot slot_ranged slots sound within zeros bits bytes reading record_at records records_of saved saved_record word_at admitted base_of size_good checked counted file_verdict found found_of gaps_kept grown is_held late late_verdict lookup_outcome next_verdict traced write_verdict wrote first_over over search_outcome sought sought_of touches measured worst_outcome onward after answer answers begun kept left part fed_from or_end timed or_counted tallied
+unfolding logger.after frame_at frames gone_on higher newest replay_verdict replayed signed_turn tick_from wrapped bytes_of played recount distance larger lesser middle accept ahead weight cheaper cheapest choice holding holds insert last_end limit_over merge merge_at merge_of readings runs runs_after settle settle_in worst broken equal fault_at first_false first_fault follows is_whole place_or ruled rules all_of all_zero bounded clauses edition_good flat gaps_good laid ranged rest_zero roomy runs_allowed slot slot_ranged slots sound within zeros bits bytes reading record_at records records_of saved saved_record word_at admitted base_of size_good checked counted file_verdict found found_of gaps_kept grown is_held late late_verdict lookup_outcome next_verdict traced write_verdict wrote first_over over search_outcome sought sought_of touches worst_outcome onward after answer answers begun kept left part fed_from or_end timed or_counted tallied
 by_hand =
     record {
       near_ground = refl;

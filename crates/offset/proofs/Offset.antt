@@ -20,10 +20,9 @@ use Rattle.rule.specs.declared.Settings.{Settings}
 use Rattle.rule.specs.declared.Size.{Size}
 use Rattle.rule.specs.declared.State.{State}
 use Rattle.rule.specs.declared.Tally.{Tally}
-use Rattle.rule.specs.declared.Written.{Written}
 use Rattle.rule.specs.Bucket.{level}
 use Rattle.rule.specs.Bytes.{bits, bytes, records_of, saved, saved_record}
-use Rattle.rule.specs.Calls.{Check, Verdict, accepted, admitted, checked, counted, file_verdict, found, found_of, is_held, kept as keptAs, late_verdict, loaded, lookup_outcome, next_verdict, onward, refused, state_of, traced, worst_outcome, write_verdict, wrote}
+use Rattle.rule.specs.Calls.{Check, Verdict, admitted, checked, counted, file_verdict, found, found_of, is_held, kept as keptAs, late_verdict, loaded, lookup_outcome, next_verdict, onward, state_of, traced, worst_outcome, write_verdict, wrote}
 use Rattle.rule.specs.Numbers.{record_width, ticks}
 use Rattle.rule.specs.Room.{laid, roomy, signed, slots, sound, table_of}
 use Rattle.rule.specs.Table.{Table, holding, insert, needed, next_tick, runs, single}
@@ -54,6 +53,7 @@ use Rattle.offset.specs.Caller.{Answer, Call, Caller, after, answer, answers, be
 use Rattle.offset.specs.Offset.{AllFit, AllHigher, Alike, FileMoved, FilesMoved, Higher, Offset, RecordingMoved, each, higher, landed_in, lates_many_too, lates_too, loads_too, lookups_too, moved_all, moved_answer, moved_found, moved_frame, moved_landed, moved_readings, nexts_many_too, nexts_too, none as no_more, opens_too, readings_in, readings_of, replays_too, rows_too, saves_too, searches_too, worsts_too}
 use Rattle.offset.proofs.Moved.{accept_moved, error_moved, first_fault_moved, first_over_moved, holding_moved, insert_moved, last_end_moved, length_moved, level_moved, moved_held, readings_moved, runs_moved, tick_moved, worst_moved}
 use Rattle.offset.proofs.Raised.{raised_bytes, recording_raised, word_bytes}
+use Rattle.std.specs.Prelude.{Ok, Err}
 
 -- what is saved is bytes
 saved_bytes : (t : Table) → AllBytes (saved t)
@@ -68,8 +68,8 @@ saved_bytes (b ∷ t) i =
 -- an accepted load of bytes leaves a sound trace
 load_left : (g : Opening) (f : List ℕ) (l : List ℤ) → AllBytes f → (v : Verdict State) → (loaded g f l).0 ≡ v → LeftBy v (loaded g f l).1
 unfolding LeftBy
-load_left g f l known (refused r) e = tt
-load_left g f l known (accepted t) e = load_sound g f l t known e
+load_left g f l known (Err r) e = tt
+load_left g f l known (Ok t) e = load_sound g f l t known e
 
 load_leaves : (g : Opening) (f : List ℕ) (l : List ℤ) → AllBytes f → LeavesSound (loaded g f l)
 load_leaves g f l known = load_left g f l known (loaded g f l).0 refl
@@ -80,10 +80,10 @@ unfolding replay_verdict checked
 replay_leaves size gaps edition r l =
     let g : Opening = late_opening size gaps edition in
     let no = refused_leaves (keptAs g) l in
-    by_test (eqb (length r % 6) 0) (λ h. rw h (open_leaves g l)) (λ h. rw h (past_admission g l (refused Refusal.Length) (Leaves (keptAs g) l) no (λ _. no Refusal.Length)))
+    by_test (eqb (length r % 6) 0) (λ h. rw h (open_leaves g l)) (λ h. rw h (past_admission g l (Err Refusal.Length) (Leaves (keptAs g) l) no (λ _. no Refusal.Length)))
 
 -- what is written of a table is all that a file has
-written_are : (t : Table) (out : List ℕ) → part 16 (Written.Buckets (length t)) (saved t ++ drop (length (saved t)) out) ≡ saved t
+written_are : (t : Table) (out : List ℕ) → part 16 (Ok (length t)) (saved t ++ drop (length (saved t)) out) ≡ saved t
 unfolding part
 written_are t out = take_at (saved t) (drop (length (saved t)) out) (16 * length t) (length_saved t)
 
@@ -95,8 +95,8 @@ module _ (d : ℤ) where
   -- ---- verdicts
 
   unfoldable moved_verdict : Verdict Table → Verdict Table
-  moved_verdict (refused r) = refused r
-  moved_verdict (accepted t) = accepted (moved_all d t)
+  moved_verdict (Err r) = Err r
+  moved_verdict (Ok t) = Ok (moved_all d t)
 
   -- the same tests refuse alike
   checked_moved : (cs : List Check) (v w : Verdict Table) → w ≡ moved_verdict v → checked cs w ≡ moved_verdict (checked cs v)
@@ -125,7 +125,7 @@ module _ (d : ℤ) where
     next_moved v =
         let t = table_of s l in
         by_test (sound s l)
-        (λ h. rw (a.fit, h, a.buckets h, last_end_moved d 0 t) (checked_moved _ _ _ (ap accepted (accept_moved d s.settings t (next_tick t) v))))
+        (λ h. rw (a.fit, h, a.buckets h, last_end_moved d 0 t) (checked_moved _ _ _ (ap Ok (accept_moved d s.settings t (next_tick t) v))))
         (λ h. rw (a.fit, h) (first_refuses Refusal.Unsound _ _ _ _))
 
     late_moved : (tick : ℕ) (v : ℤ) → late_verdict s m tick (v +ℤ d) ≡ moved_verdict (late_verdict s l tick v)
@@ -134,7 +134,7 @@ module _ (d : ℤ) where
         let t = table_of s l in
         let same : runs (insert (single tick (v +ℤ d)) (moved_all d t)) ≡ runs (insert (single tick v) t) = ap runs (insert_moved d (single tick v) t) ∙ runs_moved d (insert (single tick v) t) in
         by_test (sound s l)
-        (λ h. rw (a.fit, h, a.buckets h, holding_moved d tick t, held_moved (holding tick t), same) (checked_moved _ _ _ (ap accepted (accept_moved d s.settings t tick v))))
+        (λ h. rw (a.fit, h, a.buckets h, holding_moved d tick t, held_moved (holding tick t), same) (checked_moved _ _ _ (ap Ok (accept_moved d s.settings t tick v))))
         (λ h. rw (a.fit, h) (first_refuses Refusal.Unsound _ _ _ _))
 
     write_moved : (taken places : ℕ) → write_verdict s m taken places ≡ moved_verdict (write_verdict s l taken places)
@@ -144,7 +144,7 @@ module _ (d : ℤ) where
     found_moved : (o : Option Bucket) → found (moved_held d o) ≡ moved_found d (found o)
     unfolding found moved_held moved_found
     found_moved none = refl
-    found_moved (some b) = λ i. Found.Level (level_moved d b i) (error_moved d b i) (b.least +ℤ d) (b.largest +ℤ d)
+    found_moved (some b) = λ i. Ok (record { level = level_moved d b i; error = error_moved d b i; least = b.least +ℤ d; largest = b.largest +ℤ d })
 
     lookup_moved : (tick : ℕ) → lookup_outcome s m tick ≡ moved_found d (lookup_outcome s l tick)
     unfolding lookup_outcome found_of checked moved_found
@@ -187,7 +187,7 @@ module _ (d : ℤ) where
   unfolding file_verdict ruled moved_verdict
   file_verdict_moved g f too a =
       rw (a.long, a.records, first_fault_moved d g.kind 0 0 (records_of f), runs_moved d (records_of f), length_moved d (records_of f))
-      (checked_moved _ (accepted (records_of f)) _ refl)
+      (checked_moved _ (Ok (records_of f)) _ refl)
 
   -- ---- what the two have
 
@@ -225,8 +225,8 @@ module _ (d : ℤ) where
   module _ (s : State) (l m : List ℤ) (a : Twin s l m) where
     traced_steps : (v : Verdict Table) → let g = s.settings in LeavesSound (traced g l v) → LeavesSound (traced g m (moved_verdict v)) → Steps s (traced g l v) (traced g m (moved_verdict v))
     unfolding traced moved_verdict onward LeftBy
-    traced_steps (refused r) p q = record { same = refl; twin = a }
-    traced_steps (accepted t) p q = let g = s.settings in record { same = ap accepted (state_moved g t); twin = laid_twin g t l m p q }
+    traced_steps (Err r) p q = record { same = refl; twin = a }
+    traced_steps (Ok t) p q = let g = s.settings in record { same = ap Ok (state_moved g t); twin = laid_twin g t l m p q }
 
     verdict_steps : (v w : Verdict Table) → w ≡ moved_verdict v → let g = s.settings in LeavesSound (traced g l v) → LeavesSound (traced g m w) → Steps s (traced g l v) (traced g m w)
     verdict_steps v w e p = let g = s.settings in subst (λ (x : Verdict Table). LeavesSound (traced g m x) → Steps s (traced g l v) (traced g m x)) (sym e) (traced_steps v p)
@@ -252,8 +252,8 @@ module _ (d : ℤ) where
   one_ends : (n : ℕ) (t : Tally) (s : State) (v : Verdict State) (l m : List ℤ) → Twin (onward s v) l m → (on too : State → List ℤ → Fed) (counts counts-too : State → List ℤ → Tally)
       → ((x : State) (l m : List ℤ) → Twin x l m → Ends (on x l) (too x m) (counts x l) (counts-too x m)) → Ends (or_end n s v l on) (or_end n s v m too) (or_counted t v l counts) (or_counted t v m counts-too)
   unfolding or_end or_counted onward
-  one_ends n t s (refused r) l m a on too counts counts-too h = record { state = refl; accepted = refl; refusal = refl; twin = a; tally = refl }
-  one_ends n t s (accepted x) l m a on too counts counts-too h = h x l m a
+  one_ends n t s (Err r) l m a on too counts counts-too h = record { state = refl; accepted = refl; refusal = refl; twin = a; tally = refl }
+  one_ends n t s (Ok x) l m a on too counts counts-too h = h x l m a
 
   -- of next and late, by what one reading of them does
   module _ {A : Type 0} (call : series.Call A) (up : A → A) (Good : A → Type 0) (steps : (s : State) (l m : List ℤ) → Twin s l m → (v : A) → Good v → Steps s (call s l v) (call s m (up v))) where
@@ -305,8 +305,8 @@ module _ (d : ℤ) where
   module _ (c : Course) (m : List ℤ) where
     after_runs : (w : Landed) (v : Verdict State) (l n : List ℤ) → Twin (onward c.state v) l n → Runs (logger.after c w v l) (logger.after (beside c m) (moved_landed d w) v n)
     unfolding onward logger.after
-    after_runs w (refused r) l n a = record { same = refl; twin = a }
-    after_runs w (accepted t) l n a = record { same = refl; twin = a }
+    after_runs w (Err r) l n a = record { same = refl; twin = a }
+    after_runs w (Ok t) l n a = record { same = refl; twin = a }
 
     -- one record: a late reading at its tick
     fed_runs : Twin c.state c.room m → (f : Frame) → Fits f.value → Runs (fed_at c (landing c f)) (fed_at (beside c m) (landing (beside c m) (moved_frame d f)))
@@ -329,18 +329,18 @@ module _ (d : ℤ) where
   replay_verdict_moved : (size : Size) (gaps edition : ℕ) (r q : List ℕ) (l m : List ℤ) → length q ≡ length r → length m ≡ length l → replay_verdict size gaps edition q m ≡ moved_verdict (replay_verdict size gaps edition r l)
   unfolding replay_verdict moved_verdict
   replay_verdict_moved size gaps edition r q l m long as_long =
-      rw long (admitted_moved (late_opening size gaps edition) l m as_long _ _ (checked_moved _ (accepted []) (accepted []) refl))
+      rw long (admitted_moved (late_opening size gaps edition) l m as_long _ _ (checked_moved _ (Ok []) (Ok []) refl))
 
   -- both are refused alike, or both go on
   data Plays : Verdict Course × List ℤ → Verdict Course × List ℤ → Type 0 where
-    neither : (r : Refusal) (l m : List ℤ) → Plays (refused r, l) (refused r, m)
-    both : (k e : Course) → Runs k e → Plays (accepted k, k.room) (accepted e, e.room)
+    neither : (r : Refusal) (l m : List ℤ) → Plays (Err r, l) (Err r, m)
+    both : (k e : Course) → Runs k e → Plays (Ok k, k.room) (Ok e, e.room)
 
   gone_plays : (fs : List Frame) → AllFit d (map (λ (f : Frame). f.value) fs) → (g : Settings) (l m : List ℤ) (v : Verdict Table) → LeavesSound (traced g l v) → LeavesSound (traced g m (moved_verdict v))
       → let o = traced g l v in let q = traced g m (moved_verdict v) in Plays (gone_on fs o.0 o.1) (gone_on (map (moved_frame d) fs) q.0 q.1)
   unfolding traced moved_verdict LeftBy gone_on
-  gone_plays fs h g l m (refused r) p q = neither r l m
-  gone_plays fs h g l m (accepted t) p q =
+  gone_plays fs h g l m (Err r) p q = neither r l m
+  gone_plays fs h g l m (Ok t) p q =
       let c : Course = logger.begun (state_of g t) (laid (needed g) t l) in
       let n = laid (needed g) (moved_all d t) m in
       both (replayed c fs) _ (subst (λ (s : State). Runs (replayed c fs) (replayed (logger.begun s n) (map (moved_frame d) fs))) (sym (state_moved g t)) (all_runs fs c n (laid_twin g t l m p q) h))
@@ -393,9 +393,9 @@ module _ (d : ℤ) where
 
     begun_goes : (g : Settings) (l n : List ℤ) (v : Verdict Table) → LeavesSound (traced g l v) → LeavesSound (traced g n (moved_verdict v)) → Both g l n v (moved_verdict v)
     unfolding traced moved_verdict begun LeftBy
-    begun_goes g l n (refused r) p q = (refl, stays)
-    begun_goes g l n (accepted t) p q =
-        let same = state_moved g t in (ap (λ (x : State). caller.traced (accepted x)) same, record { state = same; tally = refl; along = record { twin = laid_twin g t l n p q; files = a.files } })
+    begun_goes g l n (Err r) p q = (refl, stays)
+    begun_goes g l n (Ok t) p q =
+        let same = state_moved g t in (ap (λ (x : State). caller.traced (Ok x)) same, record { state = same; tally = refl; along = record { twin = laid_twin g t l n p q; files = a.files } })
 
     along : (g : Settings) (l n : List ℤ) (v w : Verdict Table) → w ≡ moved_verdict v → LeavesSound (traced g l v) → LeavesSound (traced g n w) → Both g l n v w
     along g l n v w e p = subst (λ (x : Verdict Table). LeavesSound (traced g n x) → Both g l n v x) (sym e) (begun_goes g l n v p)
@@ -404,8 +404,8 @@ module _ (d : ℤ) where
     drawn_moved : (out too : List Bucket) (v : Verdict Table)
         → let o = wrote (λ t. t) out v in let q = wrote (λ t. t) too (moved_verdict v) in caller.drawn q.0 (part 1 q.0 q.1) ≡ caller.drawn o.0 (moved_all d (part 1 o.0 o.1))
     unfolding wrote moved_verdict part
-    drawn_moved out too (refused r) = refl
-    drawn_moved out too (accepted t) =
+    drawn_moved out too (Err r) = refl
+    drawn_moved out too (Ok t) =
         rw (take_at t (drop (length t) out) (1 * length t) (omega arith), take_at (moved_all d t) (drop (length (moved_all d t)) too) (1 * length (moved_all d t)) (omega arith), length_moved d t) refl
 
     abbrev Filed : List ℕ → List ℕ → Verdict Table → Type 0
@@ -414,26 +414,26 @@ module _ (d : ℤ) where
         let q = wrote saved too (moved_verdict v) in
         (caller.filed q.0 ≡ caller.filed o.0) × Goes (kept c o.0 o.1) (kept (second c m gs) q.0 q.1)
 
-    not_filed : (out too : List ℕ) (r : Refusal) → Filed out too (refused r)
+    not_filed : (out too : List ℕ) (r : Refusal) → Filed out too (Err r)
     unfolding wrote moved_verdict kept
     not_filed out too r = (refl, stays)
 
     file_written : (out too : List ℕ) → sound c.state c.room ≡ true → let t = table_of c.state c.room in let u = moved_all d t in
-        FileMoved d (part 16 (Written.Buckets (length t)) (saved t ++ drop (length (saved t)) out)) (part 16 (Written.Buckets (length u)) (saved u ++ drop (length (saved u)) too))
+        FileMoved d (part 16 (Ok (length t)) (saved t ++ drop (length (saved t)) out)) (part 16 (Ok (length u)) (saved u ++ drop (length (saved u)) too))
     file_written out too h =
         let t = table_of c.state c.room in rw (written_are t out, written_are (moved_all d t) too) (file_moved c.state c.room m a.twin h)
 
-    filed_too : (out too : List ℕ) → sound c.state c.room ≡ true → Filed out too (accepted (table_of c.state c.room))
+    filed_too : (out too : List ℕ) → sound c.state c.room ≡ true → Filed out too (Ok (table_of c.state c.room))
     unfolding wrote moved_verdict kept
     filed_too out too h =
-        (ap (λ (n : ℕ). caller.filed (Written.Buckets n)) (length_moved d (table_of c.state c.room)), record { state = refl; tally = refl; along = record { twin = a.twin; files = one_more c.files gs (file_written out too h) a.files } })
+        (ap (λ (n : ℕ). caller.filed (Ok n)) (length_moved d (table_of c.state c.room)), record { state = refl; tally = refl; along = record { twin = a.twin; files = one_more c.files gs (file_written out too h) a.files } })
 
     played_goes : {o q : Verdict Course × List ℤ} → Plays o q → (caller.recounted (recount q.0) ≡ caller.recounted (recount o.0)) × Goes (played c o.0 o.1) (played (second c m gs) q.0 q.1)
     unfolding recount played
     played_goes (neither r l n) = (refl, stays)
     played_goes (both k e b) = (
-      ap (λ (x : Course). caller.recounted (accepted (x.state, length x.landed, x.refused))) b.same
-          ∙ ap (λ (n : ℕ). caller.recounted (accepted (k.state, n, k.refused))) (length-map k.landed (moved_landed d)),
+      ap (λ (x : Course). caller.recounted (Ok (x.state, length x.landed, x.refused))) b.same
+          ∙ ap (λ (n : ℕ). caller.recounted (Ok (k.state, n, k.refused))) (length-map k.landed (moved_landed d)),
       record { state = ap (λ (x : Course). x.state) b.same; tally = refl; along = record { twin = b.twin; files = a.files } },
     )
 
@@ -441,7 +441,7 @@ module _ (d : ℤ) where
     unfolding answer left moved_answer moved_verdict
     step (opens_too g l n long) =
         let k = keptAs g in
-        along k l n _ _ (admitted_moved g l n long (accepted []) (accepted []) refl) (open_leaves g l) (open_leaves g n)
+        along k l n _ _ (admitted_moved g l n long (Ok []) (Ok []) refl) (open_leaves g l) (open_leaves g n)
     step (nexts_too v fits fits-too) = fed_goes (next_steps c.state c.room m a.twin v (fits, fits-too))
     step (lates_too tick v fits fits-too) = fed_goes (late_steps c.state c.room m a.twin (tick, v) (fits, fits-too))
     step (nexts_many_too vs fit) = many_goes (next_ends c.state c.room m a.twin c.tally vs fit)
@@ -534,13 +534,13 @@ twice_level b =
     let m = level b in
     (omega (whole, middle_up a z, middle_down a z, sum m m, one_side (a +ℤ z), one_side m), omega (whole, middle_up a z, middle_down a z, sum m m, sum (m +ℤ m) (pos 1), one_side (a +ℤ z), one_side m))
 
-replay_answers : (c : Caller) (size : Size) (gaps edition : ℕ) (r : List ℕ) (l m : List ℤ) (k : Course) → replay_outcome size gaps edition r l ≡ (accepted k, m)
-    → (answer c (caller.replays size gaps edition r l) ≡ caller.recounted (accepted (k.state, length k.landed, k.refused))) × (left c (caller.replays size gaps edition r l) ≡ record { state = k.state; room = m; tally = c.tally; files = c.files })
+replay_answers : (c : Caller) (size : Size) (gaps edition : ℕ) (r : List ℕ) (l m : List ℤ) (k : Course) → replay_outcome size gaps edition r l ≡ (Ok k, m)
+    → (answer c (caller.replays size gaps edition r l) ≡ caller.recounted (Ok (k.state, length k.landed, k.refused))) × (left c (caller.replays size gaps edition r l) ≡ record { state = k.state; room = m; tally = c.tally; files = c.files })
 unfolding answer left recount played
 replay_answers c size gaps edition r l m k e = (ap (λ (o : Verdict Course × List ℤ). caller.recounted (recount o.0)) e, ap (λ (o : Verdict Course × List ℤ). played c o.0 o.1) e)
 
-replay_refused : (c : Caller) (size : Size) (gaps edition : ℕ) (r : List ℕ) (l m : List ℤ) (x : Refusal) → replay_outcome size gaps edition r l ≡ (refused x, m)
-    → (answer c (caller.replays size gaps edition r l) ≡ caller.recounted (refused x)) × (left c (caller.replays size gaps edition r l) ≡ c)
+replay_refused : (c : Caller) (size : Size) (gaps edition : ℕ) (r : List ℕ) (l m : List ℤ) (x : Refusal) → replay_outcome size gaps edition r l ≡ (Err x, m)
+    → (answer c (caller.replays size gaps edition r l) ≡ caller.recounted (Err x)) × (left c (caller.replays size gaps edition r l) ≡ c)
 unfolding answer left recount played
 replay_refused c size gaps edition r l m x e = (ap (λ (o : Verdict Course × List ℤ). caller.recounted (recount o.0)) e, ap (λ (o : Verdict Course × List ℤ). played c o.0 o.1) e)
 

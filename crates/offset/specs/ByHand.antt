@@ -1,18 +1,16 @@
 -- Callers worked by hand: a pin near ground with the readings of H6, a late trace, many readings at one call, files from elsewhere, and recordings of the logger; each without an offset and with one of 1,001.
-use Rattle.std.specs.Prelude.{ℕ, ◌≡◌, List, [], ◌∷◌, ◌++◌, ℤ, pos, negsuc, replicate}
+use Rattle.std.specs.Prelude.{ℕ, ◌≡◌, List, [], ◌∷◌, ◌++◌, ℤ, pos, negsuc, replicate, Ok, Err, None}
 use Rattle.std.proofs.Math.Option.{some, none}
 use Rattle.rule.specs.declared.Found.{Found}
+use Rattle.rule.specs.Calls.{Verdict}
 use Rattle.rule.specs.declared.Refusal.{Refusal}
 use Rattle.rule.specs.declared.Settings.{Settings}
 use Rattle.rule.specs.declared.Size.TheVariants.{Steps, Base}
 use Rattle.rule.specs.declared.State.{State}
-use Rattle.rule.specs.declared.Written.{Written}
 use Rattle.rule.specs.ByHand.{bucket, edited, gappy, gappy_base, in_order, of_base, second}
-use Rattle.rule.specs.Calls.{accepted, refused}
-use Rattle.over.specs.declared.Sought.{Sought}
-use Rattle.rule.specs.declared.Measured.{Measured}
 use Rattle.offset.specs.Offset.{AllHigher, FilesMoved, raised}
 use Rattle.offset.specs.Caller.{Answer, Call, Caller, after, answers, drawn, filed, idle, lates, lates_many, loads, lookups, measured, nexts, nexts_many, opens, pointed, reached, recounted, replays, rows, saves, searches, shown, traced, worsts}
+use Rattle.over.specs.Hits.{hit}
 
 abbrev pub now : Settings → ℕ → ℕ → ℕ → State
 now g used runs readings = record { settings = g; used = used; runs = runs; readings = readings }
@@ -46,28 +44,32 @@ calls n x y z =
     ∷ loads (in_order (Steps 1)) 0 (replicate 13 (pos n))
     ∷ []
 
+-- what a lookup finds: level, error, least and largest
+abbrev at_level : ℤ → ℕ → ℤ → ℤ → Verdict Found
+at_level level error least largest = Ok (record { level = level; error = error; least = least; largest = largest })
+
 -- by level, least and largest of the first bucket and the reading of the second
 abbrev pub told : ℤ → ℤ → ℤ → ℤ → List Answer
 told level least largest last =
-    traced (accepted (now (of_base 2) 0 0 0))
-    ∷ traced (accepted (now (of_base 2) 1 1 1))
-    ∷ traced (accepted (now (of_base 2) 2 1 2))
-    ∷ traced (accepted (now (of_base 2) 2 1 3))
-    ∷ shown (Found.Level level 2 least largest)
-    ∷ pointed (Sought.At 0 0)
-    ∷ pointed (Sought.At 1 2)
-    ∷ pointed Sought.Nowhere
-    ∷ measured (Measured.Error 2)
-    ∷ drawn (Written.Buckets 2) (bucket 0 2 least largest ∷ bucket 2 1 last last ∷ [])
-    ∷ filed (Written.Buckets 2)
-    ∷ traced (accepted (now (of_base 2) 2 1 3))
-    ∷ shown (Found.Level level 2 least largest)
-    ∷ shown (Found.Refused Refusal.Absent)
-    ∷ traced (accepted (now (of_base 2) 2 1 4))
-    ∷ measured (Measured.Error 2)
-    ∷ drawn (Written.Buckets 2) (bucket 0 2 least largest ∷ bucket 2 2 last last ∷ [])
-    ∷ traced (accepted (now (of_base 2) 0 0 0))
-    ∷ traced (accepted (now (of_base 2) 2 1 3))
+    traced (Ok (now (of_base 2) 0 0 0))
+    ∷ traced (Ok (now (of_base 2) 1 1 1))
+    ∷ traced (Ok (now (of_base 2) 2 1 2))
+    ∷ traced (Ok (now (of_base 2) 2 1 3))
+    ∷ shown (at_level level 2 least largest)
+    ∷ pointed (hit 0 0)
+    ∷ pointed (hit 1 2)
+    ∷ pointed (Ok None)
+    ∷ measured (Ok 2)
+    ∷ drawn (Ok 2) (bucket 0 2 least largest ∷ bucket 2 1 last last ∷ [])
+    ∷ filed (Ok 2)
+    ∷ traced (Ok (now (of_base 2) 2 1 3))
+    ∷ shown (at_level level 2 least largest)
+    ∷ shown (Err Refusal.Absent)
+    ∷ traced (Ok (now (of_base 2) 2 1 4))
+    ∷ measured (Ok 2)
+    ∷ drawn (Ok 2) (bucket 0 2 least largest ∷ bucket 2 2 last last ∷ [])
+    ∷ traced (Ok (now (of_base 2) 0 0 0))
+    ∷ traced (Ok (now (of_base 2) 2 1 3))
     ∷ []
 
 -- ---- late
@@ -106,32 +108,32 @@ late_calls n x y =
 -- by the first reading
 abbrev pub told_late : ℤ → List Answer
 told_late x =
-    measured (Measured.Refused Refusal.Unsound)
-    ∷ pointed (Sought.Refused Refusal.Unsound)
-    ∷ traced (accepted (now (gappy_base 4 3) 0 0 0))
-    ∷ traced (accepted (now (gappy_base 4 3) 1 1 1))
-    ∷ traced (refused Refusal.Taken)
-    ∷ traced (refused Refusal.Kind)
-    ∷ filed (Written.Buckets 1)
-    ∷ traced (accepted (now (gappy_base 4 3) 2 2 2))
-    ∷ traced (refused Refusal.Room)
-    ∷ filed (Written.Refused Refusal.Short)
-    ∷ drawn (Written.Refused Refusal.Short) []
-    ∷ pointed (Sought.At 0 3)
-    ∷ pointed (Sought.At 1 5)
-    ∷ pointed Sought.Nowhere
-    ∷ pointed (Sought.Refused Refusal.Tick)
-    ∷ filed (Written.Buckets 2)
-    ∷ traced (refused Refusal.Room)
-    ∷ shown (Found.Level x 0 x x)
-    ∷ traced (accepted (now (gappy_base 2 2) 1 1 1))
-    ∷ shown (Found.Refused Refusal.Absent)
-    ∷ shown (Found.Level x 0 x x)
-    ∷ traced (accepted (now (gappy_base 2 2) 2 1 2))
-    ∷ traced (accepted (now (gappy_base 2 2) 3 1 3))
-    ∷ traced (accepted (now (gappy_base 2 2) 3 1 4))
-    ∷ filed (Written.Buckets 3)
-    ∷ traced (accepted (now (gappy_base 2 2) 1 1 1))
+    measured (Err Refusal.Unsound)
+    ∷ pointed (Err Refusal.Unsound)
+    ∷ traced (Ok (now (gappy_base 4 3) 0 0 0))
+    ∷ traced (Ok (now (gappy_base 4 3) 1 1 1))
+    ∷ traced (Err Refusal.Taken)
+    ∷ traced (Err Refusal.Kind)
+    ∷ filed (Ok 1)
+    ∷ traced (Ok (now (gappy_base 4 3) 2 2 2))
+    ∷ traced (Err Refusal.Room)
+    ∷ filed (Err Refusal.Short)
+    ∷ drawn (Err Refusal.Short) []
+    ∷ pointed (hit 0 3)
+    ∷ pointed (hit 1 5)
+    ∷ pointed (Ok None)
+    ∷ pointed (Err Refusal.Tick)
+    ∷ filed (Ok 2)
+    ∷ traced (Err Refusal.Room)
+    ∷ shown (at_level x 0 x x)
+    ∷ traced (Ok (now (gappy_base 2 2) 1 1 1))
+    ∷ shown (Err Refusal.Absent)
+    ∷ shown (at_level x 0 x x)
+    ∷ traced (Ok (now (gappy_base 2 2) 2 1 2))
+    ∷ traced (Ok (now (gappy_base 2 2) 3 1 3))
+    ∷ traced (Ok (now (gappy_base 2 2) 3 1 4))
+    ∷ filed (Ok 3)
+    ∷ traced (Ok (now (gappy_base 2 2) 1 1 1))
     ∷ []
 
 -- ---- many readings at one call
@@ -156,15 +158,15 @@ many_calls n x y z =
 abbrev pub told_many : ℤ → ℤ → ℤ → ℤ → List Answer
 told_many level least largest last =
     reached (now (of_base 2) 0 0 0) 0 (some Refusal.Unsound)
-    ∷ traced (accepted (now (of_base 2) 0 0 0))
+    ∷ traced (Ok (now (of_base 2) 0 0 0))
     ∷ reached (now (of_base 2) 2 1 3) 3 none
-    ∷ shown (Found.Level level 2 least largest)
+    ∷ shown (at_level level 2 least largest)
     ∷ reached (now (of_base 2) 2 1 3) 0 none
     ∷ reached (now (of_base 2) 2 1 3) 0 (some Refusal.Kind)
-    ∷ traced (accepted (now (gappy_base 2 2) 0 0 0))
+    ∷ traced (Ok (now (gappy_base 2 2) 0 0 0))
     ∷ reached (now (gappy_base 2 2) 2 1 2) 2 (some Refusal.Taken)
     ∷ reached (now (gappy_base 2 2) 3 1 4) 2 none
-    ∷ drawn (Written.Buckets 3) (bucket 4 1 least least ∷ bucket 5 1 largest largest ∷ bucket 6 2 last last ∷ [])
+    ∷ drawn (Ok 3) (bucket 4 1 least least ∷ bucket 5 1 largest largest ∷ bucket 6 2 last last ∷ [])
     ∷ reached (now (gappy_base 2 2) 3 1 4) 0 (some Refusal.Kind)
     ∷ []
 
@@ -185,7 +187,7 @@ abbrev pub file_calls : List Call
 file_calls = loads (in_order (Steps 1)) 0 (replicate 12 (pos 7)) ∷ loads (in_order (Steps 1)) 1 (replicate 12 (pos 7)) ∷ []
 
 abbrev pub told_files : List Answer
-told_files = traced (refused (Refusal.Record 1)) ∷ traced (refused Refusal.Length) ∷ []
+told_files = traced (Err (Refusal.Record 1)) ∷ traced (Err Refusal.Length) ∷ []
 
 -- ---- recordings
 
@@ -223,20 +225,20 @@ replay_calls n r z =
 -- by level, least and largest of the first two readings, and the last
 abbrev pub told_replay : ℤ → ℤ → ℤ → ℤ → List Answer
 told_replay level least largest last =
-    recounted (accepted (now (gappy_base 1 2) 3 2 3, 3, 1))
-    ∷ shown (Found.Level least 0 least least)
-    ∷ shown (Found.Level last 0 last last)
-    ∷ traced (accepted (now (gappy_base 1 2) 3 2 4))
-    ∷ recounted (refused Refusal.Length)
-    ∷ recounted (refused Refusal.Room)
-    ∷ traced (refused Refusal.Taken)
-    ∷ shown (Found.Level level 2 least largest)
-    ∷ traced (accepted (now (gappy_base 1 2) 2 1 5))
-    ∷ drawn (Written.Buckets 2) (bucket 32768 2 least largest ∷ bucket 32770 3 last last ∷ [])
-    ∷ filed (Written.Buckets 2)
-    ∷ recounted (accepted (now (gappy_base 2 1) 0 0 0, 0, 0))
-    ∷ shown (Found.Refused Refusal.Absent)
-    ∷ traced (accepted (now (gappy_base 1 2) 2 1 5))
+    recounted (Ok (now (gappy_base 1 2) 3 2 3, 3, 1))
+    ∷ shown (at_level least 0 least least)
+    ∷ shown (at_level last 0 last last)
+    ∷ traced (Ok (now (gappy_base 1 2) 3 2 4))
+    ∷ recounted (Err Refusal.Length)
+    ∷ recounted (Err Refusal.Room)
+    ∷ traced (Err Refusal.Taken)
+    ∷ shown (at_level level 2 least largest)
+    ∷ traced (Ok (now (gappy_base 1 2) 2 1 5))
+    ∷ drawn (Ok 2) (bucket 32768 2 least largest ∷ bucket 32770 3 last last ∷ [])
+    ∷ filed (Ok 2)
+    ∷ recounted (Ok (now (gappy_base 2 1) 0 0 0, 0, 0))
+    ∷ shown (Err Refusal.Absent)
+    ∷ traced (Ok (now (gappy_base 1 2) 2 1 5))
     ∷ []
 
 -- ---- editions
@@ -257,15 +259,15 @@ edition_calls n x =
 
 abbrev pub told_edition : ℤ → List Answer
 told_edition x =
-    traced (accepted (now (second (of_base 2)) 0 0 0))
+    traced (Ok (now (second (of_base 2)) 0 0 0))
     ∷ reached (now (second (of_base 2)) 2 1 4) 4 none
-    ∷ drawn (Written.Buckets 2) (bucket 0 2 x x ∷ bucket 2 2 x x ∷ [])
-    ∷ traced (refused Refusal.Edition)
-    ∷ filed (Written.Buckets 2)
-    ∷ traced (accepted (now (of_base 2) 2 1 4))
-    ∷ traced (accepted (now (of_base 2) 2 1 5))
-    ∷ drawn (Written.Buckets 2) (bucket 0 4 x x ∷ bucket 4 1 x x ∷ [])
-    ∷ recounted (refused Refusal.Edition)
+    ∷ drawn (Ok 2) (bucket 0 2 x x ∷ bucket 2 2 x x ∷ [])
+    ∷ traced (Err Refusal.Edition)
+    ∷ filed (Ok 2)
+    ∷ traced (Ok (now (of_base 2) 2 1 4))
+    ∷ traced (Ok (now (of_base 2) 2 1 5))
+    ∷ drawn (Ok 2) (bucket 0 4 x x ∷ bucket 4 1 x x ∷ [])
+    ∷ recounted (Err Refusal.Edition)
     ∷ []
 
 -- one reading, by each of the calls that feed one or many

@@ -1,5 +1,5 @@
 -- A caller who makes any calls in turn, each getting what the last one left: what each answers, and what the caller has then. A picture leaves that as it is: crates/pictures tells of a caller who draws between these calls.
-use Rattle.std.specs.Prelude.{ℕ, ◌*◌, List, [], ◌∷◌, ℤ, get_or, length, take}
+use Rattle.std.specs.Prelude.{ℕ, ◌*◌, List, [], ◌∷◌, ℤ, get_or, length, take, Ok, Err}
 use Rattle.std.proofs.Math.Option.{Option}
 use Rattle.rule.specs.declared.Bucket.{Bucket}
 use Rattle.rule.specs.declared.Found.{Found}
@@ -8,14 +8,12 @@ use Rattle.rule.specs.declared.Refusal.{Refusal}
 use Rattle.rule.specs.declared.Size.{Size}
 use Rattle.rule.specs.declared.State.{State}
 use Rattle.rule.specs.declared.Tally.{Tally}
-use Rattle.rule.specs.declared.Written.{Written}
-use Rattle.rule.specs.Calls.{Verdict, accepted, counted, late_outcome, loaded, lookup_outcome, next_outcome, onward, opened, refused, row_outcome, save_outcome, worst_outcome}
+use Rattle.rule.specs.Calls.{Verdict, counted, late_outcome, loaded, lookup_outcome, next_outcome, onward, opened, row_outcome, save_outcome, worst_outcome}
 use Rattle.series.specs.Counts.{tallied}
 use Rattle.series.specs.Series.{Fed, late_call, late_many, next_call, next_many, timed}
-use Rattle.over.specs.declared.Sought.{Sought}
 use Rattle.over.specs.Search.{search_outcome}
 use Rattle.logger.specs.Replay.{Course, replay_outcome}
-use Rattle.rule.specs.declared.Measured.{Measured}
+use Rattle.over.specs.Hits.{Searched}
 
 -- what a caller has between calls; a file that is saved is put before the others
 pub record Caller : Type 0 where
@@ -47,17 +45,17 @@ pub data Call : Type 0 where
 pub data Answer : Type 0 where
   traced : Verdict State → Answer
   reached : State → ℕ → Option Refusal → Answer
-  shown : Found → Answer
-  pointed : Sought → Answer
-  measured : Measured → Answer
-  drawn : Written → List Bucket → Answer
-  filed : Written → Answer
+  shown : Verdict Found → Answer
+  pointed : Searched → Answer
+  measured : Verdict ℕ → Answer
+  drawn : Verdict ℕ → List Bucket → Answer
+  filed : Verdict ℕ → Answer
   recounted : Verdict (State × ℕ × ℕ) → Answer
 
 -- what was written, a bucket taking so many places of the output
-unfoldable pub part : {A : Type 0} → ℕ → Written → List A → List A
-part width (Written.Refused r) out = []
-part width (Written.Buckets n) out = take (width * n) out
+unfoldable pub part : {A : Type 0} → ℕ → Verdict ℕ → List A → List A
+part width (Err r) out = []
+part width (Ok n) out = take (width * n) out
 
 -- the file that load is given; a place where there is none stands for the empty file
 abbrev pub file_at : Caller → ℕ → List ℕ
@@ -65,8 +63,8 @@ file_at c i = get_or c.files i []
 
 -- the state, and how many records were accepted and how many refused
 unfoldable pub recount : Verdict Course → Verdict (State × ℕ × ℕ)
-recount (refused r) = refused r
-recount (accepted k) = accepted (k.state, length k.landed, k.refused)
+recount (Err r) = Err r
+recount (Ok k) = Ok (k.state, length k.landed, k.refused)
 
 -- how far many readings came
 abbrev pub reach : Fed → Answer
@@ -97,18 +95,18 @@ fed_many c f t = record { state = f.state; room = f.room; tally = t; files = c.f
 
 -- after an open or a load: the new trace in its room, or after a refusal the trace at hand
 unfoldable pub begun : Caller → Verdict State → List ℤ → Caller
-begun c (refused r) l = c
-begun c (accepted s) l = record { state = s; room = l; tally = c.tally; files = c.files }
+begun c (Err r) l = c
+begun c (Ok s) l = record { state = s; room = l; tally = c.tally; files = c.files }
 
 -- after a replay: likewise, and the tally does not count its records
 unfoldable pub played : Caller → Verdict Course → List ℤ → Caller
-played c (refused r) l = c
-played c (accepted k) l = record { state = k.state; room = l; tally = c.tally; files = c.files }
+played c (Err r) l = c
+played c (Ok k) l = record { state = k.state; room = l; tally = c.tally; files = c.files }
 
 -- after a save: what was written is a file
-unfoldable pub kept : Caller → Written → List ℕ → Caller
-kept c (Written.Refused r) out = c
-kept c (Written.Buckets n) out = record { state = c.state; room = c.room; tally = c.tally; files = part 16 (Written.Buckets n) out ∷ c.files }
+unfoldable pub kept : Caller → Verdict ℕ → List ℕ → Caller
+kept c (Err r) out = c
+kept c (Ok n) out = record { state = c.state; room = c.room; tally = c.tally; files = part 16 (Ok n) out ∷ c.files }
 
 unfoldable pub left : Caller → Call → Caller
 left c (opens g l) = let o = opened g l in begun c o.0 o.1

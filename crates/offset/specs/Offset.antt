@@ -1,5 +1,5 @@
 -- A probe offset: one number added to all readings moves every level by that number, where nothing leaves the 32-bit range.
-use Rattle.std.specs.Prelude.{ℕ, ◌+◌, ◌*◌, ◌/◌, ◌%◌, ◌≡◌, true, ℤ, pos, ◌+ℤ◌, drop, get_or, length}
+use Rattle.std.specs.Prelude.{ℕ, ◌+◌, ◌*◌, ◌/◌, ◌%◌, ◌≡◌, true, ℤ, pos, ◌+ℤ◌, drop, get_or, length, Ok, Err}
 use mathlib.Core.List.{List, [], ◌∷◌, ◌++◌, map, Memᴰ}
 use Rattle.std.specs.Int.Signed.{le_z}
 use Rattle.rule.specs.declared.Bucket.{Bucket}
@@ -11,7 +11,7 @@ use Rattle.rule.specs.declared.State.{State}
 use Rattle.rule.specs.declared.Tally.{Tally}
 use Rattle.rule.specs.Bucket.{error, level, spread}
 use Rattle.rule.specs.Bytes.{bits, bytes, records_of}
-use Rattle.rule.specs.Calls.{Verdict, accepted, refused}
+use Rattle.rule.specs.Calls.{Verdict}
 use Rattle.rule.specs.Room.{signed, sound, table_of}
 use Rattle.rule.specs.Table.{Table, worst}
 use Rattle.storage.specs.Bytes.{AllBytes}
@@ -44,9 +44,9 @@ abbrev pub moved_landed : ℤ → Landed → Landed
 moved_landed d w = record { tick = w.tick; counter = w.counter; value = w.value +ℤ d }
 
 -- what lookup shows: the level, the least and the largest d higher, the error the same; a refusal the same
-unfoldable pub moved_found : ℤ → Found → Found
-moved_found d (Found.Level level error least largest) = Found.Level (level +ℤ d) error (least +ℤ d) (largest +ℤ d)
-moved_found d (Found.Refused r) = Found.Refused r
+unfoldable pub moved_found : ℤ → Verdict Found → Verdict Found
+moved_found d (Ok f) = Ok (record { level = f.level +ℤ d; error = f.error; least = f.least +ℤ d; largest = f.largest +ℤ d })
+moved_found d (Err r) = Err r
 
 -- states, refusals with number and place, the index and start of a bucket that is over, errors and counts are the same
 unfoldable pub moved_answer : ℤ → Answer → Answer
@@ -163,8 +163,8 @@ Came c x f t = (answer c x ≡ reached f.state f.accepted f.refusal) × (left c 
 
 -- the records that a replay has accepted, last first
 unfoldable pub landed_in : Verdict Course → List Landed
-landed_in (refused r) = []
-landed_in (accepted k) = k.landed
+landed_in (Err r) = []
+landed_in (Ok k) = k.landed
 
 -- ---- the promise
 
@@ -209,10 +209,10 @@ pub record Offset : Type 0 where
   pub late_many_same : (d : ℤ) (c e : Caller) → Alike d c e → (ts : List ℕ) (vs : List ℤ) → AllFit d vs
       → reach (late_many e.state e.room (timed ts (moved_readings d vs))) ≡ reach (late_many c.state c.room (timed ts vs))
   -- a replay: the call itself answers it, with the state and two counts; accepted, its trace and room take the place of those at hand, refused, all stays; tally and files stay either way
-  pub replay_answers : (c : Caller) (size : Size) (gaps edition : ℕ) (r : List ℕ) (l m : List ℤ) (k : Course) → replay_outcome size gaps edition r l ≡ (accepted k, m)
-      → (answer c (replays size gaps edition r l) ≡ recounted (accepted (k.state, length k.landed, k.refused))) × (left c (replays size gaps edition r l) ≡ record { state = k.state; room = m; tally = c.tally; files = c.files })
-  pub replay_refused : (c : Caller) (size : Size) (gaps edition : ℕ) (r : List ℕ) (l m : List ℤ) (x : Refusal) → replay_outcome size gaps edition r l ≡ (refused x, m)
-      → (answer c (replays size gaps edition r l) ≡ recounted (refused x)) × (left c (replays size gaps edition r l) ≡ c)
+  pub replay_answers : (c : Caller) (size : Size) (gaps edition : ℕ) (r : List ℕ) (l m : List ℤ) (k : Course) → replay_outcome size gaps edition r l ≡ (Ok k, m)
+      → (answer c (replays size gaps edition r l) ≡ recounted (Ok (k.state, length k.landed, k.refused))) × (left c (replays size gaps edition r l) ≡ record { state = k.state; room = m; tally = c.tally; files = c.files })
+  pub replay_refused : (c : Caller) (size : Size) (gaps edition : ℕ) (r : List ℕ) (l m : List ℤ) (x : Refusal) → replay_outcome size gaps edition r l ≡ (Err x, m)
+      → (answer c (replays size gaps edition r l) ≡ recounted (Err x)) × (left c (replays size gaps edition r l) ≡ c)
   -- a replay, whatever the caller has: the same records are accepted, at the same ticks
   pub replay_same : (d : ℤ) (size : Size) (gaps edition : ℕ) (r q : List ℕ) (l m : List ℤ) → RecordingMoved d r q → length m ≡ length l
       → landed_in (replay_outcome size gaps edition q m).0 ≡ map (moved_landed d) (landed_in (replay_outcome size gaps edition r l).0)

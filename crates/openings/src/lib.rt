@@ -1,6 +1,6 @@
 // What a trace is opened, loaded or replayed with, and what the state keeps of it. Only `base_of` and `kept` ask something of their caller: 2B is formed of a good B alone.
 
-#![tactic(auto)]
+#![tactic(auto, unfolding(rule::specs::Calls::base_of, rule::specs::Calls::gaps_kept, rule::specs::Calls::size_good, rule::specs::Room::bounded, rule::specs::Table::readings, rule::specs::Table::runs))]
 
 ghost use Rattle.std.specs.Prelude.{true, ◌≡◌, []};
 ghost use Rattle.rule.specs.declared.Kind.TheVariants.{InOrder, Late};
@@ -68,12 +68,10 @@ pub fn kept(named: Opening) -> Settings
     requires { size_good named.size ≡ true }
     ensures { result ≡ kept named }
 {
-    let kind = named.kind;
-    let size = named.size;
     Settings {
-        kind,
-        base: base_of(size),
-        gaps: gaps_kept(kind, named.gaps),
+        kind: named.kind,
+        base: base_of(named.size),
+        gaps: gaps_kept(named.kind, named.gaps),
         edition: named.edition,
     }
 }

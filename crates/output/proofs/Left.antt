@@ -5,7 +5,7 @@ use mathlib.Core.List.{List, [], ◌∷◌, ◌++◌, append_assoc}
 use native.Mathlib.Nat.{zero-add}
 use native.Mathlib.Omega.{arith}
 use lib.ListN.{length, drop, length-append}
-use lib.Seq.{set_out, sets, sets-eq}
+use lib.Seq.{sets, sets-eq}
 use Rattle.rule.proofs.Stores.{sets_append}
 use Rattle.output.specs.Output.{Put, joined}
 
@@ -44,10 +44,6 @@ module _ {o p : List ℕ} {at n : ℕ} {t : List ℕ} where
 pub then : {o p q a b : List ℕ} {at m r : ℕ} → Put o at a m p → Put p m b r q → Put o at (a ++ b) r q
 then {o} {a = a} {b} {at} x y =
     record { next = omega (arith, length-append a b, x.next, y.next); bytes = rw (y.bytes, x.bytes, x.next) (sets_append o at a b) }
-
--- a byte that has no place
-pub put_nowhere : (o : List ℕ) (at b r : ℕ) → r ≡ at + 1 → length o ≤ at → Put o at (b ∷ []) r o
-put_nowhere o at b r e h = record { next = e; bytes = rw (set_out o at b h) }
 
 -- a text printed from the start of an output that has room for it: the bytes behind it stay
 pub from_start : {o q : List ℕ} {r : ℕ} (t : List ℕ) → length t ≤ length o → Put o 0 t r q → q ≡ t ++ drop (length t) o

@@ -17,15 +17,17 @@ use Rattle.rule.specs.declared.Bucket.{Bucket}
 use Rattle.rule.specs.declared.Refusal.{Refusal}
 use Rattle.rule.specs.declared.State.{State}
 use Rattle.rule.specs.Bucket.{end}
-use Rattle.rule.specs.Calls.{checked}
+use Rattle.rule.specs.Calls.{checked, Verdict}
 use Rattle.rule.specs.Numbers.{ticks}
 use Rattle.rule.specs.Room.{sound, table_of}
 use Rattle.rule.specs.Table.{Table}
 use Rattle.rule.proofs.Ruling.{and_both, and_left, and_right}
 use Rattle.rule.proofs.Whole.{by_test}
-use Rattle.over.specs.declared.Sought.{Sought}
 use Rattle.over.specs.Search.{first_over, over, search_outcome, sought, sought_of, touches}
 use Rattle.over.specs.Promise.{First, Hit, Over, Searches, Shares, all_over, answer_of}
+use Rattle.std.specs.Prelude.{Ok, Err, None}
+use Rattle.over.specs.declared.Sought.{Sought}
+use Rattle.over.specs.Hits.{Searched, hit}
 
 -- ---- one bucket
 
@@ -153,8 +155,8 @@ module _ (first last : ℕ) (bar : ℤ) where
 
   -- ---- in the promise's words
 
-  hit : (t : Table) (index start : ℕ) → Stop 0 t index start → Hit first last bar t index start
-  hit t index start w =
+  hit_of : (t : Table) (index start : ℕ) → Stop 0 t index start → Hit first last bar t index start
+  hit_of t index start w =
       record { front = w.front; bucket = w.bucket; back = w.back; stands = w.stands; counted = omega (arith, w.counted); begins = w.begins; over = is_over first last bar w.bucket w.over }
 
   hit_told : (t : Table) (index start : ℕ) → Hit first last bar t index start → Memᴰ (index, start) (all_over first last bar 0 t)
@@ -165,15 +167,15 @@ module _ (first last : ℕ) (bar : ℤ) where
       (subst (λ (p : ℕ × ℕ). Memᴰ p (all_over first last bar 0 (w.front ++ (w.bucket ∷ w.back)))) (λ i. (n i, sym w.begins i)) m)
 
   first_hit : (t : Table) (index start : ℕ) → Stops 0 t index start → First first last bar t index start
-  unfolding hit
+  unfolding hit_of
   first_hit t index start w =
-      record { hit = hit t index start w.stop; none_before = λ b m. not_over first last bar b (w.passed b m) }
+      record { hit = hit_of t index start w.stop; none_before = λ b m. not_over first last bar b (w.passed b m) }
 
   -- ---- the call
 
   module _ (s : State) (l : List ℤ) where
     -- refused, or past both tests what is found in the table
-    cases {ℓ} : (P : Sought → Type ℓ) → ((r : Refusal) → P (Sought.Refused r))
+    cases {ℓ} : (P : Searched → Type ℓ) → ((r : Refusal) → P (Err r))
         → (sound s l ≡ true → leb ticks first ≡ false → leb ticks last ≡ false → P (sought (first_over first last bar 0 (table_of s l)))) → P (search_outcome s l first last bar)
     unfolding search_outcome sought_of checked
     cases P f g =
@@ -187,15 +189,14 @@ module _ (first last : ℕ) (bar : ℤ) where
     unfolding search_outcome sought_of checked
     answers fit h k = rw (fit, h, k)
 
-  found : (o : Option (ℕ × ℕ)) (index start : ℕ) → sought o ≡ Sought.At index start → o ≡ some (index, start)
+  found : (o : Option (ℕ × ℕ)) (index start : ℕ) → sought o ≡ hit index start → o ≡ some (index, start)
   unfolding sought
   found none index start e = absurd (let z : ◌≡◌ {A = ℕ} 0 1 = cc in omega arith)
   found (some h) index start e =
-      let p : h.0 ≡ index = cc in
-      let q : h.1 ≡ start = cc in
-      λ i. some (p i, q i)
+      let same : ◌≡◌ {A = Sought} (record { index = h.0; start = h.1 }) (record { index = index; start = start }) = cc in
+      ap (λ (x : Sought). some (x.index, x.start)) same
 
-  not_found : (o : Option (ℕ × ℕ)) → sought o ≡ Sought.Nowhere → o ≡ none
+  not_found : (o : Option (ℕ × ℕ)) → sought o ≡ Ok None → o ≡ none
   unfolding sought
   not_found none e = refl
   not_found (some h) e = absurd (let z : ◌≡◌ {A = ℕ} 0 1 = cc in omega arith)
@@ -206,15 +207,15 @@ module _ (first last : ℕ) (bar : ℤ) where
     last_in : leb ticks last ≡ false
     is : first_over first last bar 0 (table_of s l) ≡ o
 
-  at_accepted : (s : State) (l : List ℤ) (index start : ℕ) → search_outcome s l first last bar ≡ Sought.At index start → Accepted s l (some (index, start))
+  at_accepted : (s : State) (l : List ℤ) (index start : ℕ) → search_outcome s l first last bar ≡ hit index start → Accepted s l (some (index, start))
   at_accepted s l index start =
-      cases s l (λ a. a ≡ Sought.At index start → Accepted s l (some (index, start)))
+      cases s l (λ a. a ≡ hit index start → Accepted s l (some (index, start)))
       (λ r e. absurd (let z : ◌≡◌ {A = ℕ} 0 1 = cc in omega arith))
       (λ fit h k e. record { fit = fit; first_in = h; last_in = k; is = found _ index start e })
 
-  nowhere_accepted : (s : State) (l : List ℤ) → search_outcome s l first last bar ≡ Sought.Nowhere → Accepted s l none
+  nowhere_accepted : (s : State) (l : List ℤ) → search_outcome s l first last bar ≡ Ok None → Accepted s l none
   nowhere_accepted s l =
-      cases s l (λ a. a ≡ Sought.Nowhere → Accepted s l none)
+      cases s l (λ a. a ≡ Ok None → Accepted s l none)
       (λ r e. absurd (let z : ◌≡◌ {A = ℕ} 0 1 = cc in omega arith))
       (λ fit h k e. record { fit = fit; first_in = h; last_in = k; is = not_found _ e })
 
@@ -238,17 +239,17 @@ empty_over first last bar b h = rw (le-ltb (max first b.start) (min (suc last) (
 below : (n : ℕ) → n ≤ 16777215 → leb ticks n ≡ false
 below n h = lt-leb ticks n (omega arith)
 
-above : (s : State) (l : List ℤ) (first last : ℕ) (bar : ℤ) → sound s l ≡ true → 16777215 < max first last → search_outcome s l first last bar ≡ Sought.Refused Refusal.Tick
+above : (s : State) (l : List ℤ) (first last : ℕ) (bar : ℤ) → sound s l ≡ true → 16777215 < max first last → search_outcome s l first last bar ≡ Err Refusal.Tick
 unfolding search_outcome sought_of checked
 above s l first last bar fit h =
     by_test (leb ticks first) (λ k. rw (fit, k))
     (λ k. let far : leb ticks last ≡ true = le-leb ticks last (omega (arith, leb-false ticks first k)) in rw (fit, k, far))
 
-unsound : (s : State) (l : List ℤ) (first last : ℕ) (bar : ℤ) → sound s l ≡ false → search_outcome s l first last bar ≡ Sought.Refused Refusal.Unsound
+unsound : (s : State) (l : List ℤ) (first last : ℕ) (bar : ℤ) → sound s l ≡ false → search_outcome s l first last bar ≡ Err Refusal.Unsound
 unfolding search_outcome sought_of checked
 unsound s l first last bar fit = rw fit
 
-not_refused : (o : Option (ℕ × ℕ)) (r : Refusal) → sought o ≡ Sought.Refused r → ⊥
+not_refused : (o : Option (ℕ × ℕ)) (r : Refusal) → sought o ≡ Err r → ⊥
 unfolding sought
 not_refused none r e = absurd (let z : ◌≡◌ {A = ℕ} 0 1 = cc in omega arith)
 not_refused (some h) r e = absurd (let z : ◌≡◌ {A = ℕ} 0 1 = cc in omega arith)
@@ -268,7 +269,7 @@ searches =
       misses = λ s l first last bar e b m. not_over first last bar b (missed first last bar 0 (table_of s l) (nowhere_accepted first last bar s l e).is b m);
       as_all = λ s l first last bar fit h k. answers first last bar s l fit (below first h) (below last k) ∙ first_of_all first last bar 0 (table_of s l);
       every = λ t first last bar index start w. hit_told first last bar t index start w;
-      only = λ t first last bar index start m. hit first last bar t index start (only first last bar 0 t index start m);
+      only = λ t first last bar index start m. hit_of first last bar t index start (only first last bar 0 t index start m);
       in_turn = λ t first last bar front h back e k m. in_turn first last bar 0 t front h back e k m;
       behind = λ s z l m first last bar index start e fit same.
           let a = at_accepted first last bar s l index start e in

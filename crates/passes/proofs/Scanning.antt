@@ -5,17 +5,16 @@ use mathlib.Core.Bool.{Bool, true, false, cond, ◌&&◌, and_assoc, and-false}
 use mathlib.Core.List.{List, ◌∷◌}
 use native.Mathlib.Numerals.{add-one}
 use native.Mathlib.Omega.{arith}
-use borrow.Author.Tests.{ne_eqb}
-use lib.Dec.{eqb}
-use lib.IntN.{ℤ, pos}
-use lib.ListN.{length, get_or, take, drop}
-use lib.Seq.{drop-cons}
+use borrow.Author.Tests.{lt-ltb, ne_eqb}
+use lib.Dec.{eqb, ltb}
+use mir.Val.{bool_byte}
+use lib.IntN.{ℤ}
 use Rattle.rule.specs.declared.Bucket.{Bucket}
 use Rattle.rule.specs.declared.Kind.{Kind}
 use Rattle.rule.specs.Bucket.{end}
 use Rattle.rule.specs.Numbers.{word}
-use Rattle.rule.specs.Room.{all_zero, ranged, slot, slot_ranged, slots}
-use Rattle.rule.specs.Rules.{Fault, broken, equal, fault_at, first_fault, is_whole, ruled}
+use Rattle.rule.specs.Room.{ranged, slot, slot_ranged, slots}
+use Rattle.rule.specs.Rules.{Fault, broken, fault_at, first_fault, is_whole, ruled}
 use Rattle.rule.specs.Table.{Table, readings, runs, runs_after}
 use Rattle.rules.proofs.Numbered.{at_most_one}
 
@@ -24,18 +23,18 @@ abbrev pub begins : ℕ → Bucket → ℕ
 begins e b = cond (eqb e b.start) 0 1
 
 -- the first bucket begins a run in any case
-runs_first : (b : Bucket) (t : Table) → runs (b ∷ t) ≡ cond (eqb 0 b.start) 1 0 + runs_after 0 (b ∷ t)
+runs_first : (b : Bucket) (t : Table) → runs (b ∷ t) ≡ bool_byte (eqb 0 b.start) + runs_after 0 (b ∷ t)
 unfolding runs runs_after
 runs_first b t = either (eqb 0 b.start) (runs_after (end b) t)
   where
-    either : (c : Bool) (n : ℕ) → suc n ≡ cond c 1 0 + (cond c 0 1 + n)
+    either : (c : Bool) (n : ℕ) → suc n ≡ bool_byte c + (cond c 0 1 + n)
     either true n = omega arith
     either false n = omega arith
 
-pub runs_counted : (l : List ℤ) (n : ℕ) → (n ≡ 0 → ⊥) → runs (slots l 0 n) ≡ cond (eqb 0 (slot l 0).start) 1 0 + runs_after 0 (slots l 0 n)
-unfolding slots
-runs_counted l zero some = absurd (some refl)
-runs_counted l (suc n) some = runs_first (slot l 0) (slots l 1 n)
+pub runs_counted : (l : List ℤ) (n : ℕ) (r : Bool) → r ≡ (ltb 0 n && eqb 0 (slot l 0).start) → runs (slots l 0 n) ≡ bool_byte r + runs_after 0 (slots l 0 n)
+unfolding slots runs runs_after
+runs_counted l zero r e = rw e
+runs_counted l (suc n) r e = rw (e, lt-ltb 0 (suc n) (omega arith)) (runs_first (slot l 0) (slots l 1 n))
 
 -- a rule broken is a fault, and no rule broken is none
 whole_at : (i r : ℕ) (f : Fault) → is_whole (fault_at i r f) ≡ eqb r 0 && is_whole f
@@ -117,18 +116,3 @@ module _ {k : Kind} {toldRuns toldReadings : ℕ} {l : List ℤ} {n counted read
           → Scan k toldRuns toldReadings l n (counted + begins e b) (read + b.count) (end b) (i + 1)
       scan_goes_on f g small =
           record { inside = omega arith; few = omega (arith, at_most_one e b.start); bounded = omega arith; rest = scan_step ∙ rw (← q, f, g) }
-
--- ---- zeros
-
--- the numbers from place i up to place n: the first of them, and the others
-pub zeros_next : (l : List ℤ) (i n : ℕ) → i < n → n ≤ length l
-    → all_zero (take (n - i) (drop i l)) ≡ equal (get_or l i (pos 0)) (pos 0) && all_zero (take (n - (i + 1)) (drop (i + 1) l))
-unfolding all_zero
-zeros_next l i n h k =
-    let one_more : n - i ≡ suc (n - (i + 1)) = omega arith in
-    let inside : i < length l = omega arith in
-    rw (one_more, add-one i, drop-cons l i (pos 0) inside)
-
-pub zeros_none : (l : List ℤ) (i n : ℕ) → n ≤ i → all_zero (take (n - i) (drop i l)) ≡ true
-unfolding all_zero
-zeros_none l i n h = let none : n - i ≡ 0 = omega arith in rw none

@@ -1,6 +1,6 @@
 // The passes over a room's numbers, any numbers: one over the slots in use, one over what is to be zeros behind them.
 
-#![tactic(auto)]
+#![tactic(auto, using(std::proofs::lemmas::Int::ints), unfolding(rule::specs::Room::within))]
 
 ghost use Rattle.std.specs.Prelude.{◌≡◌, ◌+◌, ◌*◌, ◌-◌, ◌≤◌, suc, length, take, drop, ◌&&◌, eqb};
 ghost use Rattle.rule.specs.Numbers.{slot_width};
@@ -30,16 +30,10 @@ pub(crate) fn slot_ranged(room: &[i64], at: usize) -> bool
     ensures { result ≡ slot_ranged room.now at }
 {
     let from = SLOT * at;
-    if !unsigned(room[from]) {
-        return false;
-    }
-    if !unsigned(room[from + 1]) {
-        return false;
-    }
-    if !signed(room[from + 2]) {
-        return false;
-    }
-    signed(room[from + 3])
+    unsigned(room[from])
+        && unsigned(room[from + 1])
+        && signed(room[from + 2])
+        && signed(room[from + 3])
 }
 
 // The numbers from `from` up to `to` are zeros.
@@ -47,14 +41,7 @@ pub fn all_zero(room: &[i64], from: usize, to: usize) -> bool
     requires { (from ≤ to) × (to ≤ length room.now) }
     ensures { result ≡ all_zero (take (to - from) (drop from room.now)) }
 {
-    let mut i = from;
-    while i < to {
-        if room[i] != 0 {
-            return false;
-        }
-        i += 1;
-    }
-    true
+    room[from..to].iter().all(|z| *z == 0)
 }
 
 // The one pass: every number of the first `used` slots in its range, every record within the rules, and the runs and readings as many as told.
@@ -65,8 +52,7 @@ pub fn scan(kind: Kind, used: usize, told_runs: usize, told_readings: usize, roo
     let mut runs = first_run(used, room);
     let mut readings = 0;
     let mut end = 0;
-    let mut i = 0;
-    while i < used {
+    for i in 0..used {
         if !slot_ranged(room, i) {
             return false;
         }
@@ -77,7 +63,6 @@ pub fn scan(kind: Kind, used: usize, told_runs: usize, told_readings: usize, roo
         runs += starts_run(end, b);
         readings += b.count as usize;
         end = bucket::end(b);
-        i += 1;
     }
     told_runs == runs && told_readings == readings
 }
@@ -88,11 +73,5 @@ pub(crate) fn first_run(used: usize, room: &[i64]) -> usize
     ensures used_value { runs (slots room.now 0 used) ≡ result + runs_after 0 (slots room.now 0 used) }
     ensures upper_bound { result ≤ 1 }
 {
-    if used == 0 {
-        return 0;
-    }
-    if room[0] == 0 {
-        return 1;
-    }
-    0
+    (0 < used && room[0] == 0) as usize
 }

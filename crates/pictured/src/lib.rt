@@ -5,7 +5,7 @@
 ghost use Rattle.std.specs.Prelude.{◌≡◌};
 ghost use Rattle.pictured.specs.Pictured.{picturing};
 
-use drawing::Drawn;
+use rule::Refusal;
 
 // How many bytes were written; 0 where it is refused.
 #[repr(C)]
@@ -16,16 +16,16 @@ pub struct Pictured {
     pub bytes: usize,
 }
 
-pub fn picturing(d: Drawn) -> Pictured
+pub fn picturing(d: Result<usize, Refusal>) -> Pictured
     ensures { result ≡ picturing d }
 {
     match d {
-        Drawn::Bytes(n) => Pictured {
+        Ok(n) => Pictured {
             refusal: 0,
             place: 0,
             bytes: n,
         },
-        Drawn::Refused(r) => Pictured {
+        Err(r) => Pictured {
             refusal: refusal::number(r),
             place: refusal::place(r),
             bytes: 0,

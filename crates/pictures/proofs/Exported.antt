@@ -19,7 +19,6 @@ use Rattle.rooms.proofs.Sounding.{sound_facts}
 use Rattle.demands.specs.History.{Reading}
 use Rattle.captions.specs.Caption.{caption_good}
 use Rattle.captions.proofs.Keeping.{captions}
-use Rattle.drawing.specs.declared.Drawn.{Drawn}
 use Rattle.drawing.specs.Call.{picture_outcome}
 use Rattle.drawing.specs.Picture.{caption_of, picture}
 use Rattle.drawing.proofs.Answering.{all_drawn, bad_caption, too_long, unsound}
@@ -35,19 +34,21 @@ use Rattle.exported.specs.Exported.{Called, buckets_of}
 use Rattle.exported.proofs.Answering.{due, saying}
 use Rattle.exported.proofs.Exporting.{promises}
 use Rattle.pictures.specs.Exported.{Draws, ExportedPictures, PicturePromised, Taken, drew_all, wholly}
+use Rattle.std.specs.Prelude.{Ok, Err}
+use Rattle.rule.specs.Calls.{Verdict}
 
-draws : (d : Drawn) (rows : List Row) (before after : List ℕ) → Answered (said_drawn d) rows before after → Draws rows before after (picturing d)
+draws : (d : Verdict ℕ) (rows : List Row) (before after : List ℕ) → Answered (said_drawn d) rows before after → Draws rows before after (picturing d)
 unfolding said_drawn picturing
-draws (Drawn.Refused r) rows before after a = record { exactly = ap saying a.exactly ∙ sym (due rows); untouched = λ h. (refl, a.untouched (number r, place r) refl) }
-draws (Drawn.Bytes n) rows before after a = record { exactly = ap saying a.exactly ∙ sym (due rows); untouched = λ h. absurd (h refl) }
+draws (Err r) rows before after a = record { exactly = ap saying a.exactly ∙ sym (due rows); untouched = λ h. (refl, a.untouched (number r, place r) refl) }
+draws (Ok n) rows before after a = record { exactly = ap saying a.exactly ∙ sym (due rows); untouched = λ h. absurd (h refl) }
 
 -- ---- case by case
 
 -- what holds where it is refused by 4, by 15 and by 13, and where the picture is written, holds of the answer
-module _ (s : State) (l : List ℤ) (c out : List ℕ) (P : Drawn × List ℕ → Type 0) where
-  by_case : P (Drawn.Refused Refusal.Unsound, out) → P (Drawn.Refused Refusal.Caption, out)
-      → (sound s l ≡ true → caption_good c ≡ true → length out < length (picture (table_of s l) c) → P (Drawn.Refused Refusal.Short, out))
-      → (length (picture (table_of s l) c) ≤ length out → let p = picture (table_of s l) c in P (Drawn.Bytes (length p), p ++ drop (length p) out))
+module _ (s : State) (l : List ℤ) (c out : List ℕ) (P : Verdict ℕ × List ℕ → Type 0) where
+  by_case : P (Err Refusal.Unsound, out) → P (Err Refusal.Caption, out)
+      → (sound s l ≡ true → caption_good c ≡ true → length out < length (picture (table_of s l) c) → P (Err Refusal.Short, out))
+      → (length (picture (table_of s l) c) ≤ length out → let p = picture (table_of s l) c in P (Ok (length p), p ++ drop (length p) out))
       → P (picture_outcome s l c out)
   by_case four fifteen thirteen drawn =
       by_test (sound s l)
@@ -80,7 +81,7 @@ module _ {named : Named} {rs : List Reading} {f : Fields} {l : List ℤ} (called
   unfolding picturing
   drawn caption out taken long =
       let good = captions.takes caption taken.short taken.bytes in
-      ap (λ (o : Drawn × List ℕ). (picturing o.0, o.1)) (all_drawn (state_from f) l caption out fit good (subst (λ (t : Table). length (picture t caption) ≤ length out) (sym same) long))
+      ap (λ (o : Verdict ℕ × List ℕ). (picturing o.0, o.1)) (all_drawn (state_from f) l caption out fit good (subst (λ (t : Table). length (picture t caption) ≤ length out) (sym same) long))
       ∙ ap (λ (t : Table). let p = picture t caption in (drew_all (length p), p ++ drop (length p) out)) same
 
   pub picture_promised : PicturePromised named rs f l
@@ -102,7 +103,7 @@ exported_pictures = record {
       let p = picture (table_of (state_from f) l) caption in
       by_case (state_from f) l caption out (λ o. (picturing o.0).refusal ≡ 0 → ◌≡◌ {A = Pictured × List ℕ} (picturing o.0, o.1) (drew_all (length p), p ++ drop (length p) out)) (λ e. absurd (omega arith)) (λ e. absurd (omega arith)) (λ _ _ _ e. absurd (omega arith))
       (λ _ _. refl);
-  unusable = λ l caption out. ap (λ (o : Drawn × List ℕ). (picturing o.0).refusal) (unsound (state_from none) l caption out refl);
+  unusable = λ l caption out. ap (λ (o : Verdict ℕ × List ℕ). (picturing o.0).refusal) (unsound (state_from none) l caption out refl);
   as_long = λ f l caption out. by_case (state_from f) l caption out (λ o. length o.1 ≡ length out) refl refl (λ _ _ _. refl) (as_long (picture (table_of (state_from f) l) caption) out);
   never_short = λ f l caption out most.
       by_case (state_from f) l caption out (λ o. (picturing o.0).refusal ≢ 13) (λ e. omega arith) (λ e. omega arith)

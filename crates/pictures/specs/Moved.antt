@@ -1,16 +1,16 @@
 -- The picture under a probe offset: one number added to all readings leaves the curve as it is, and moves the two levels that the scale tells.
-use Rattle.std.specs.Prelude.{ℕ, ◌+◌, ◌-◌, ◌≡◌, true, false, List, [], ◌∷◌, ℤ, pos, ◌+ℤ◌, length}
+use Rattle.std.specs.Prelude.{ℕ, ◌+◌, ◌-◌, ◌≡◌, true, false, List, [], ◌∷◌, ℤ, pos, ◌+ℤ◌, length, Err}
 use Rattle.rule.specs.declared.Bucket.{Bucket}
 use Rattle.rule.specs.declared.Refusal.{Refusal}
 use Rattle.rule.specs.Room.{sound, table_of}
 use Rattle.rule.specs.Table.{Table}
 use Rattle.output.specs.Output.{filled, joined}
-use Rattle.drawing.specs.declared.Drawn.{Drawn}
 use Rattle.drawing.specs.declared.View.{View}
 use Rattle.drawing.specs.Call.{picture_outcome}
 use Rattle.drawing.specs.Picture.{across, curve, down, front, picture, scale_numbers, scale_text, view_of}
 use Rattle.offset.specs.Caller.{Call, Caller, after, left}
 use Rattle.offset.specs.Offset.{Alike, AllHigher, moved_all}
+use Rattle.rule.specs.Calls.{Verdict}
 
 -- ---- d higher, d being any whole number
 
@@ -37,7 +37,7 @@ pub data Turn : Type 0 where
   draws : (caption out : List ℕ) → Turn
 
 -- the answer to a picture, and the output afterwards, of what the caller has
-abbrev pub drawn_by : Caller → List ℕ → List ℕ → Drawn × List ℕ
+abbrev pub drawn_by : Caller → List ℕ → List ℕ → Verdict ℕ × List ℕ
 drawn_by c caption out = picture_outcome c.state c.room caption out
 
 -- what the caller has then: a picture reads state and room, and writes the output alone
@@ -84,4 +84,4 @@ pub record PicturesMoved : Type 0 where
       sound p.state p.room ≡ true → (sound q.state q.room ≡ true) × (buckets_of q ≡ moved_all d (buckets_of p)) × (curve (buckets_of q) ≡ curve (buckets_of p))
   -- and where one is refused because its trace is not sound, so is the other
   pub same_refusal : (d : ℤ) (c e : Caller) → Alike d c e → (caption out too : List ℕ) → sound c.state c.room ≡ false
-      → (drawn_by c caption out ≡ (Drawn.Refused Refusal.Unsound, out)) × (drawn_by e caption too ≡ (Drawn.Refused Refusal.Unsound, too))
+      → (drawn_by c caption out ≡ (Err Refusal.Unsound, out)) × (drawn_by e caption too ≡ (Err Refusal.Unsound, too))

@@ -1,6 +1,6 @@
 // The place of a tick among the slots in use, and what a reading there touches. Each function asks for slots that are there and hold buckets, as they are in a sound trace.
 
-#![tactic(auto)]
+#![tactic(auto, using(rooms::proofs::Reading::filled))]
 
 ghost use Rattle.std.specs.Prelude.{◌≡◌, ◌&&◌, ◌+◌, ◌-◌, suc, eqb, ltb, ℤ};
 ghost use Rattle.rule.specs.Bucket.{end};
@@ -19,14 +19,12 @@ pub fn find(room: &[i64], used: usize, tick: u32) -> usize
     ensures { result ≡ position tick (slots room.now 0 used) }
 {
     let wanted = tick as i64;
-    let mut i = 0;
-    while i < used {
+    for i in 0..used {
         if wanted < room[SLOT * i] {
             return i;
         }
-        i += 1;
     }
-    i
+    used
 }
 
 // The tick lies in the bucket before place `at`, which is the tick's place.
@@ -34,10 +32,7 @@ pub fn held(room: &[i64], used: usize, at: usize, tick: u32) -> bool
     requires { Placed room.now used at tick }
     ensures { result ≡ is_held (holding tick (slots room.now 0 used)) }
 {
-    if at == 0 {
-        return false;
-    }
-    (tick as usize) < bucket::end(read(room, at - 1))
+    0 < at && (tick as usize) < bucket::end(read(room, at - 1))
 }
 
 // How many buckets a reading of the tick touches, at the tick's place.
@@ -53,10 +48,7 @@ pub(crate) fn ends_before(room: &[i64], at: usize, tick: u32) -> bool
     requires { Filled room.now at }
     ensures { result ≡ ltb 0 at && eqb (end (slot room.now (at - 1))) tick }
 {
-    if at == 0 {
-        return false;
-    }
-    bucket::end(read(room, at - 1)) == tick as usize
+    0 < at && bucket::end(read(room, at - 1)) == tick as usize
 }
 
 // The bucket at place `at` starts right after the tick.
@@ -64,8 +56,5 @@ pub(crate) fn starts_after(room: &[i64], used: usize, at: usize, tick: u32) -> b
     requires { Filled room.now used }
     ensures { result ≡ ltb at used && eqb (slot room.now at).start (suc tick) }
 {
-    if used <= at {
-        return false;
-    }
-    read(room, at).start as usize == tick as usize + 1
+    at < used && read(room, at).start as usize == tick as usize + 1
 }

@@ -1,19 +1,14 @@
 -- Each answer as a plain record: refusal 0 where the call was accepted, else document 01's number and place.
-use Rattle.std.specs.Prelude.{ℕ, List, ℤ, pos}
+use Rattle.std.specs.Prelude.{ℕ, List, ℤ, pos, Ok, Err, None, Some}
 use Rattle.rule.specs.declared.Bucket.{Bucket}
 use Rattle.rule.specs.declared.Found.{Found}
 use Rattle.rule.specs.declared.Tally.{Tally}
-use Rattle.rule.specs.declared.Written.{Written}
 use Rattle.rule.specs.Answers.{number, place}
-use Rattle.rule.specs.Calls.{counted, late_outcome, loaded, lookup_outcome, next_outcome, opened, row_outcome, save_outcome, worst_outcome}
-use Rattle.over.specs.declared.Sought.{Sought}
+use Rattle.rule.specs.Calls.{counted, late_outcome, loaded, lookup_outcome, next_outcome, opened, row_outcome, save_outcome, worst_outcome, Verdict}
 use Rattle.over.specs.Search.{search_outcome}
 use Rattle.trace.specs.Answers.{answered}
-use Rattle.trace.specs.declared.Answer.{Answer}
 use Rattle.logger.specs.Replay.{replay_outcome}
-use Rattle.replay.specs.declared.Replayed.{Replayed}
 use Rattle.replay.specs.Answers as replay
-use Rattle.rule.specs.declared.Measured.{Measured}
 use Rattle.fields.specs.declared.Named.{Named}
 use Rattle.fields.specs.declared.Fields.{Fields}
 use Rattle.fields.specs.States.{fields_of, none, opening_of, state_from}
@@ -23,45 +18,48 @@ use Rattle.plain.specs.declared.Shown.{Shown}
 use Rattle.plain.specs.declared.Hit.{Hit}
 use Rattle.plain.specs.declared.Counted.{Counted}
 use Rattle.plain.specs.declared.WorstError.{WorstError}
+use Rattle.trace.specs.declared.Trace.{Trace}
+use Rattle.course.specs.declared.Fed.{Fed}
+use Rattle.over.specs.Hits.{Searched}
 
 -- accepted: the next state; refused: the state that was given
-unfoldable pub replying : Fields → Answer → Reply
-replying given (Answer.Accepted t) = record { refusal = 0; place = 0; state = fields_of t.state }
-replying given (Answer.Refused r) = record { refusal = number r; place = place r; state = given }
+unfoldable pub replying : Fields → Verdict Trace → Reply
+replying given (Ok t) = record { refusal = 0; place = 0; state = fields_of t.state }
+replying given (Err r) = record { refusal = number r; place = place r; state = given }
 
 -- with the room afterwards
-abbrev pub replied : Fields → Answer × List ℤ → Reply × List ℤ
+abbrev pub replied : Fields → Verdict Trace × List ℤ → Reply × List ℤ
 replied given a = (replying given a.0, a.1)
 
 -- accepted: the trace, and how many records were accepted and refused; refused: zeros
-unfoldable pub recounting : Replayed → Recount
-recounting (Replayed.Done t a r) = record { refusal = 0; place = 0; state = fields_of t.state; accepted = a; refused = r }
-recounting (Replayed.Refused r) = record { refusal = number r; place = place r; state = none; accepted = 0; refused = 0 }
+unfoldable pub recounting : Verdict Fed → Recount
+recounting (Ok f) = record { refusal = 0; place = 0; state = fields_of f.trace.state; accepted = f.accepted; refused = f.refused }
+recounting (Err r) = record { refusal = number r; place = place r; state = none; accepted = 0; refused = 0 }
 
 -- refused: zeros
-unfoldable pub showing : Found → Shown
-showing (Found.Level level error least largest) = record { refusal = 0; place = 0; level = level; error = error; least = least; largest = largest }
-showing (Found.Refused r) = record { refusal = number r; place = place r; level = pos 0; error = 0; least = pos 0; largest = pos 0 }
+unfoldable pub showing : Verdict Found → Shown
+showing (Ok f) = record { refusal = 0; place = 0; level = f.level; error = f.error; least = f.least; largest = f.largest }
+showing (Err r) = record { refusal = number r; place = place r; level = pos 0; error = 0; least = pos 0; largest = pos 0 }
 
 -- found is 1 where there is one, and 0 where there is none; zeros then, and refused too
-unfoldable pub pointing : Sought → Hit
-pointing (Sought.At index start) = record { refusal = 0; place = 0; found = 1; index = index; start = start }
-pointing Sought.Nowhere = record { refusal = 0; place = 0; found = 0; index = 0; start = 0 }
-pointing (Sought.Refused r) = record { refusal = number r; place = place r; found = 0; index = 0; start = 0 }
+unfoldable pub pointing : Searched → Hit
+pointing (Ok (Some h)) = record { refusal = 0; place = 0; found = 1; index = h.index; start = h.start }
+pointing (Ok None) = record { refusal = 0; place = 0; found = 0; index = 0; start = 0 }
+pointing (Err r) = record { refusal = number r; place = place r; found = 0; index = 0; start = 0 }
 
 -- refused: no bucket
-unfoldable pub telling : Written → Counted
-telling (Written.Buckets n) = record { refusal = 0; place = 0; buckets = n }
-telling (Written.Refused r) = record { refusal = number r; place = place r; buckets = 0 }
+unfoldable pub telling : Verdict ℕ → Counted
+telling (Ok n) = record { refusal = 0; place = 0; buckets = n }
+telling (Err r) = record { refusal = number r; place = place r; buckets = 0 }
 
 -- with the output afterwards
-abbrev pub told : {A : Type 0} → Written × List A → Counted × List A
+abbrev pub told : {A : Type 0} → Verdict ℕ × List A → Counted × List A
 told w = (telling w.0, w.1)
 
 -- refused: no error
-unfoldable pub erring : Measured → WorstError
-erring (Measured.Error e) = record { refusal = 0; place = 0; error = e }
-erring (Measured.Refused r) = record { refusal = number r; place = place r; error = 0 }
+unfoldable pub erring : Verdict ℕ → WorstError
+erring (Ok e) = record { refusal = 0; place = 0; error = e }
+erring (Err r) = record { refusal = number r; place = place r; error = 0 }
 
 -- ---- what each exported function answers, with the room or the output as it leaves it
 

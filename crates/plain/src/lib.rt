@@ -6,8 +6,8 @@ ghost use Rattle.std.specs.Prelude.{◌≡◌};
 ghost use Rattle.plain.specs.Plain.{replying, telling};
 
 use fields::{Fields, fields_of};
-use rule::Written;
-use trace::Answer;
+use rule::Refusal;
+use trace::Trace;
 
 // Refusal 0 where the call was accepted: then the state is the next one, else the one that was given.
 #[repr(C)]
@@ -70,16 +70,16 @@ pub struct WorstError {
     pub error: u32,
 }
 
-pub fn replying(given: Fields, a: Answer) -> Reply
+pub fn replying(given: Fields, a: Result<Trace, Refusal>) -> Reply
     ensures { result ≡ replying given a }
 {
     match a {
-        Answer::Accepted(t) => Reply {
+        Ok(t) => Reply {
             refusal: 0,
             place: 0,
             state: fields_of(t.state),
         },
-        Answer::Refused(r) => Reply {
+        Err(r) => Reply {
             refusal: refusal::number(r),
             place: refusal::place(r),
             state: given,
@@ -87,16 +87,16 @@ pub fn replying(given: Fields, a: Answer) -> Reply
     }
 }
 
-pub fn telling(w: Written) -> Counted
+pub fn telling(w: Result<usize, Refusal>) -> Counted
     ensures { result ≡ telling w }
 {
     match w {
-        Written::Buckets(n) => Counted {
+        Ok(n) => Counted {
             refusal: 0,
             place: 0,
             buckets: n,
         },
-        Written::Refused(r) => Counted {
+        Err(r) => Counted {
             refusal: refusal::number(r),
             place: refusal::place(r),
             buckets: 0,

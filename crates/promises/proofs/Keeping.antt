@@ -19,7 +19,7 @@ use Rattle.rule.specs.declared.State.{State}
 use Rattle.rule.specs.declared.Found.{Found}
 use Rattle.rule.specs.Bucket.{end, error, level, spread}
 use Rattle.rule.specs.Bytes.{records_of, saved}
-use Rattle.rule.specs.Calls.{Verdict, accepted, base_of, checked, found_of, found, gaps_kept, is_held, kept, late, late_verdict, loaded, load_verdict, lookup_outcome, next_outcome, next_verdict, admitted, state_of, traced}
+use Rattle.rule.specs.Calls.{Verdict, base_of, checked, found_of, found, gaps_kept, is_held, kept, late, late_verdict, loaded, load_verdict, lookup_outcome, next_outcome, next_verdict, admitted, state_of, traced}
 use Rattle.rule.specs.Numbers.{most_base, record_width, slot_width, ticks}
 use Rattle.rule.specs.Room.{laid, signed, slots, sound, table_of}
 use Rattle.rule.specs.Table.{Table, Ordered, accept, holders, holding, holds, last_end, limit, limit_over, needed, next_tick, readings, runs}
@@ -56,6 +56,7 @@ use Rattle.answered.proofs.Outcomes.{bytes_written, next_in_order}
 use Rattle.rooms.proofs.Outcomes.{accepted_is, not_accepted, traced_refused}
 use Rattle.logger.proofs.Along.{replay_refused as replay_leaves}
 use Rattle.promises.proofs.Replays.{replay_reached}
+use Rattle.std.specs.Prelude.{Ok}
 
 -- ---- along the way
 
@@ -65,7 +66,7 @@ record Known (g : Opening) (rs : List Reading) (s : State) (l : List ℤ) : Type
   buckets : table_of s l ≡ table_after s.settings rs
   taken : Accepted s.settings rs
 
-left_sound : {o : Verdict State × List ℤ} {s : State} {m : List ℤ} → o ≡ (accepted s, m) → LeavesSound o → sound s m ≡ true
+left_sound : {o : Verdict State × List ℤ} {s : State} {m : List ℤ} → o ≡ (Ok s, m) → LeavesSound o → sound s m ≡ true
 unfolding LeftBy
 left_sound e h = subst LeavesSound e h
 
@@ -128,27 +129,27 @@ late_takes Late t tick e h = h
 known : {g : Opening} {rs : List Reading} {s : State} {l : List ℤ} → Reached g rs s l → Known g rs s l
 unfolding table_after Accepted slots
 known {g} (opens l {m = m} {s = s} e) =
-    open_either g l (λ w. traced (kept g) l w ≡ (accepted s, m) → Known g [] s m) (λ q f. absurd (not_accepted (kept g) l q f))
+    open_either g l (λ w. traced (kept g) l w ≡ (Ok s, m) → Known g [] s m) (λ q f. absurd (not_accepted (kept g) l q f))
     (λ _ f.
     let o = accepted_is (kept g) l [] f in
     record { named = ap (λ (x : State). x.settings) o.0; fit = left_sound e (open_leaves g l); buckets = ap (λ (x : State). table_of x m) o.0; taken = tt }) e
 known {g} (nexts {rs = rs} {s = s} {t = t} {l = l} {m = m} v range r e) =
     let k = known r in
     let q : Reading = record { tick = next_tick (table_of s l); value = v } in
-    next_either s l v (λ w. traced s.settings l w ≡ (accepted t, m) → Known g (q ∷ rs) t m) (λ n f. absurd (not_accepted s.settings l n f))
+    next_either s l v (λ w. traced s.settings l w ≡ (Ok t, m) → Known g (q ∷ rs) t m) (λ n f. absurd (not_accepted s.settings l n f))
     (λ kind _ _ f.
     let o = accepted_is s.settings l _ f in
     step k q t m (next_takes s.settings.kind (table_of s l) kind) o.0 o.1 (left_sound e (next_leaves s l v (signed_fits v range)))) e
 known {g} (lates {rs = rs} {s = s} {t = t} {l = l} {m = m} tick v range r e) =
     let k = known r in
     let q : Reading = record { tick = tick; value = v } in
-    late_either s l v (λ w. traced s.settings l w ≡ (accepted t, m) → Known g (q ∷ rs) t m) (λ n f. absurd (not_accepted s.settings l n f)) tick
+    late_either s l v (λ w. traced s.settings l w ≡ (Ok t, m) → Known g (q ∷ rs) t m) (λ n f. absurd (not_accepted s.settings l n f)) tick
     (λ p free _ _ f.
     let o = accepted_is s.settings l _ f in
     step k q t m (late_takes s.settings.kind (table_of s l) tick p.kind (late_free p free)) o.0 o.1 (left_sound e (late_leaves s l tick v (signed_fits v range)))) e
 known {g} (next_refused {rs = rs} {s = s} {l = l} {m = m} {r = q} v r e) = subst (Known g rs s) (sym (traced_refused s.settings l (next_verdict s l v) q m e)) (known r)
 known {g} (late_refused {rs = rs} {s = s} {l = l} {m = m} {r = q} tick v r e) = subst (Known g rs s) (sym (traced_refused s.settings l (late_verdict s l tick v) q m e)) (known r)
-known {g} (open_refused {rs = rs} {s = s} {l = l} {m = m} {r = q} h r e) = subst (Known g rs s) (sym (traced_refused (kept h) l (admitted h l (accepted [])) q m e)) (known r)
+known {g} (open_refused {rs = rs} {s = s} {l = l} {m = m} {r = q} h r e) = subst (Known g rs s) (sym (traced_refused (kept h) l (admitted h l (Ok [])) q m e)) (known r)
 known {g} (load_refused {rs = rs} {s = s} {l = l} {m = m} {r = q} h file r e) = subst (Known g rs s) (sym (traced_refused (kept h) l (load_verdict h file l) q m e)) (known r)
 known {g} (replay_refused {rs = rs} {s = s} {l = l} {m = m} size gaps edition recording r e) = subst (Known g rs s) (sym (replay_leaves size gaps edition recording l e)) (known r)
 known {g} (loads {rs = rs} {s = s} {t = t} {l = l} {m = m} {written = written} {n = n} out room h same r saves e) =
@@ -177,7 +178,7 @@ held_is e tick (a ∷ t) b o m h =
     (λ g. ⊎_elim (λ same. absurd (false≢true (sym g ∙ subst (λ (x : Bucket). holds tick x ≡ true) same h))) (λ rest. rw g (held_is (end a) tick t b o.1.1 rest h)) (Memᴰ.cases_cons m))
 
 shows : (s : State) (l : List ℤ) (tick : ℕ) (b : Bucket) → sound s l ≡ true → tick < ticks → holding tick (table_of s l) ≡ some b
-    → lookup_outcome s l tick ≡ Found.Level (level b) (error b) b.least b.largest
+    → lookup_outcome s l tick ≡ Ok (record { level = level b; error = error b; least = b.least; largest = b.largest })
 unfolding lookup_outcome found_of checked found
 shows s l tick b fit small h = rw (fit, lt-leb ticks tick small, h)
 
@@ -259,10 +260,10 @@ same_kept h g e =
       edition = ap (λ (x : Settings). x.edition) e;
     }
 
-load_names : (g : Opening) (file : List ℕ) (l : List ℤ) (t : State) → (loaded g file l).0 ≡ accepted t → t.settings ≡ kept g
+load_names : (g : Opening) (file : List ℕ) (l : List ℤ) (t : State) → (loaded g file l).0 ≡ Ok t → t.settings ≡ kept g
 load_names g file l t e =
     let a = load_accepts g file l t e in
-    let f : ◌≡◌ {A = Verdict State} (accepted t) (accepted (state_of (kept g) (records_of file))) = sym e ∙ ap (λ (o : Verdict State × List ℤ). o.0) (load_leaves g file l a.0 a.1) in
+    let f : ◌≡◌ {A = Verdict State} (Ok t) (Ok (state_of (kept g) (records_of file))) = sym e ∙ ap (λ (o : Verdict State × List ℤ). o.0) (load_leaves g file l a.0 a.1) in
     let q : t ≡ state_of (kept g) (records_of file) = cc in
     ap (λ (x : State). x.settings) q
 
@@ -315,7 +316,7 @@ demand2 = record {
 -- ---- many readings at one call
 
 -- an accepted reading in order moves the next tick by one
-next_moves : {g : Opening} {rs : List Reading} {s t : State} {l m : List ℤ} (v : ℤ) → signed v ≡ true → Reached g rs s l → next_outcome s l v ≡ (accepted t, m) → next_tick (table_of t m) ≡ next_tick (table_of s l) + 1
+next_moves : {g : Opening} {rs : List Reading} {s t : State} {l m : List ℤ} (v : ℤ) → signed v ≡ true → Reached g rs s l → next_outcome s l v ≡ (Ok t, m) → next_tick (table_of t m) ≡ next_tick (table_of s l) + 1
 next_moves {g} {rs} {s} {t} {l} {m} v range r e =
     let k = keeps r in
     let in_order : late g.kind ≡ false = sym (ap (λ (x : Settings). late x.kind) k.named) ∙ next_in_order s l v e in

@@ -5,17 +5,18 @@ use mathlib.Core.List.{List}
 use mathlib.Core.Logic.{◌⊎◌}
 use lib.IntN.{ℤ}
 use Rattle.rule.specs.declared.Opening.{Opening}
-use Rattle.rule.specs.Calls.{Verdict, accepted, admitted, checked, file_verdict, kept, load_verdict, loaded, refused, traced}
+use Rattle.rule.specs.Calls.{Verdict, admitted, checked, file_verdict, kept, load_verdict, loaded, traced}
 use Rattle.rule.specs.Room.{roomy}
 use Rattle.rule.specs.Table.{Table}
 use Rattle.answered.proofs.Answering.{one_of_two}
 use Rattle.promises.specs.Demands.{answered_in, in_edition}
+use Rattle.std.specs.Prelude.{Ok, Err}
 
 module _ (g : Opening) (e : ℕ) (l : List ℤ) where
   left_in : (v : Verdict Table) → traced (kept (in_edition e g)) l v ≡ (answered_in e (traced (kept g) l v).0, (traced (kept g) l v).1)
   unfolding traced answered_in
-  left_in (refused r) = refl
-  left_in (accepted t) = refl
+  left_in (Err r) = refl
+  left_in (Ok t) = refl
 
   same_verdict : (g.edition ≡ 1) ⊎ (g.edition ≡ 2) → (e ≡ 1) ⊎ (e ≡ 2) → (file : List ℕ) → load_verdict (in_edition e g) file l ≡ load_verdict g file l
   unfolding admitted checked file_verdict roomy

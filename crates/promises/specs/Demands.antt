@@ -1,5 +1,5 @@
 -- Demands 2 and 3: of a state and a room that were reached, and of everything that can be.
-use Rattle.std.specs.Prelude.{ℕ, ◌≤◌, ◌+◌, ◌*◌, ◌/◌, min, ◌≡◌, true, false, cond, ◌⊎◌, ℤ, drop, length, take}
+use Rattle.std.specs.Prelude.{ℕ, ◌≤◌, ◌+◌, ◌*◌, ◌/◌, min, ◌≡◌, true, false, cond, ◌⊎◌, ℤ, drop, length, take, Ok, Err}
 use mathlib.Core.List.{List, [], ◌∷◌, ◌++◌, Memᴰ}
 use Rattle.rule.specs.declared.Bucket.{Bucket}
 use Rattle.rule.specs.declared.Found.{Found}
@@ -10,10 +10,9 @@ use Rattle.rule.specs.declared.Settings.{Settings}
 use Rattle.rule.specs.declared.Size.{Size}
 use Rattle.rule.specs.declared.Size.TheVariants.{Steps, Base}
 use Rattle.rule.specs.declared.State.{State}
-use Rattle.rule.specs.declared.Written.{Written}
 use Rattle.rule.specs.Bucket.{distance, error, level, spread}
 use Rattle.rule.specs.Bytes.{saved}
-use Rattle.rule.specs.Calls.{Verdict, accepted, kept, late, loaded, lookup_outcome, opened, refused, save_outcome}
+use Rattle.rule.specs.Calls.{Verdict, kept, late, loaded, lookup_outcome, opened, save_outcome}
 use Rattle.rule.specs.Room.{sound, table_of}
 use Rattle.rule.specs.Table.{Table, holders, holds, limit, next_tick, worst}
 use Rattle.storage.specs.Bytes.{AllBytes}
@@ -29,7 +28,7 @@ use Rattle.promises.specs.Reached.{Reached, SameSettings, at_their_ticks, in_ord
 -- lookup itself answers, at the reading's tick, a level within E of the reading
 pub record Seen (E : ℕ) (s : State) (l : List ℤ) (r : Reading) : Type 0 where
   pub bucket : Bucket
-  pub answer : lookup_outcome s l r.tick ≡ Found.Level (level bucket) (error bucket) bucket.least bucket.largest
+  pub answer : lookup_outcome s l r.tick ≡ Ok (record { level = level bucket; error = error bucket; least = bucket.least; largest = bucket.largest })
   pub near : distance r.value (level bucket) ≤ E
 
 -- of a trace opened with what g names
@@ -47,7 +46,7 @@ pub record Upheld (g : Opening) (rs : List Reading) (s : State) (l : List ℤ) :
   -- demand 3: against every curve of at most half as many flat steps as the base limit, rounded up, by lookup itself
   pub picture : (c : Curve) (E : ℕ) → steps c ≤ (base_named g.size + 1) / 2 → Near E c rs → ((r : Reading) → Memᴰ r rs → Seen E s l r) × (worst (table_of s l) ≤ E)
   -- lookup shows, at each tick, the level, error, least and largest of the bucket that holds it
-  pub lookups : (tick : ℕ) (b : Bucket) → Memᴰ b (table_of s l) → holds tick b ≡ true → lookup_outcome s l tick ≡ Found.Level (level b) (error b) b.least b.largest
+  pub lookups : (tick : ℕ) (b : Bucket) → Memᴰ b (table_of s l) → holds tick b ≡ true → lookup_outcome s l tick ≡ Ok (record { level = level b; error = error b; least = b.least; largest = b.largest })
   -- at most C steps, late one more for each unbroken run of the arrived ticks
   pub size : s.used ≤ most_steps (named_by g) (runs_of rs)
   -- the state's runs are those of the arrived ticks, and its readings are the accepted ones
@@ -65,9 +64,9 @@ abbrev pub in_edition : ℕ → Opening → Opening
 in_edition e g = record { kind = g.kind; size = g.size; gaps = g.gaps; edition = e }
 
 unfoldable pub answered_in : ℕ → Verdict State → Verdict State
-answered_in e (refused r) = refused r
-answered_in e (accepted s) =
-    accepted (record { settings = record { kind = s.settings.kind; base = s.settings.base; gaps = s.settings.gaps; edition = e }; used = s.used; runs = s.runs; readings = s.readings })
+answered_in e (Err r) = Err r
+answered_in e (Ok s) =
+    Ok (record { settings = record { kind = s.settings.kind; base = s.settings.base; gaps = s.settings.gaps; edition = e }; used = s.used; runs = s.runs; readings = s.readings })
 
 -- Demand 2: the buckets are those of the min-merge rule (late: its fragment form), and save and load round-trip both ways.
 pub record Demand2 : Type 0 where
@@ -92,26 +91,26 @@ pub record Demand2 : Type 0 where
   pub one_run : (s : Settings) → late s.kind ≡ true → limit s 1 ≡ s.base + 1
   -- save writes the buckets and nothing behind them, and load of these bytes with the same settings is the same trace, the same state and the same slots
   pub saves : {g : Opening} {rs : List Reading} {s : State} {l : List ℤ} → Reached g rs s l → (out : List ℕ) → 16 * s.used ≤ length out
-      → save_outcome s l out ≡ (Written.Buckets s.used, saved (table_of s l) ++ drop (16 * s.used) out)
+      → save_outcome s l out ≡ (Ok s.used, saved (table_of s l) ++ drop (16 * s.used) out)
   pub saved_loaded : {g h : Opening} {rs : List Reading} {s : State} {l : List ℤ} → Reached g rs s l → SameSettings h g → (room : List ℤ) → 4 * slots_needed (named_by g) ≤ length room
-      → let o = loaded h (saved (table_of s l)) room in (o.0 ≡ accepted s) × (take (4 * slots_needed (named_by g)) o.1 ≡ take (4 * slots_needed (named_by g)) l)
+      → let o = loaded h (saved (table_of s l)) room in (o.0 ≡ Ok s) × (take (4 * slots_needed (named_by g)) o.1 ≡ take (4 * slots_needed (named_by g)) l)
   -- the same settings are those of which the same is kept, named by B or by C
   pub same_settings : (h g : Opening) → (SameSettings h g → kept h ≡ kept g) × (kept h ≡ kept g → SameSettings h g)
   -- of bytes from anywhere, load keeps the kind, the base limit, K and the edition that it was given, K in order but for being kept as 0
-  pub loaded_named : (g : Opening) (file : List ℕ) (l : List ℤ) (t : State) → (loaded g file l).0 ≡ accepted t
+  pub loaded_named : (g : Opening) (file : List ℕ) (l : List ℤ) (t : State) → (loaded g file l).0 ≡ Ok t
       → (t.settings.kind ≡ g.kind) × (t.settings.base ≡ base_named g.size) × (t.settings.gaps ≡ cond (late g.kind) g.gaps 0) × (t.settings.edition ≡ g.edition)
   -- a file does not say its edition: by the other one, load gives the same refusal, or the same buckets and the same state but for the edition, and leaves the same room
   pub either_loads : (g : Opening) (e : ℕ) → (g.edition ≡ 1) ⊎ (g.edition ≡ 2) → (e ≡ 1) ⊎ (e ≡ 2) → (file : List ℕ) (l : List ℤ) → let o = loaded g file l in loaded (in_edition e g) file l ≡ (answered_in e o.0, o.1)
   -- and bytes from anywhere that load accepts are the bytes that save writes of what it left
-  pub loaded_saved : (g : Opening) (file : List ℕ) (l : List ℤ) (t : State) (out : List ℕ) → AllBytes file → (loaded g file l).0 ≡ accepted t → length file ≤ length out
-      → save_outcome t (loaded g file l).1 out ≡ (Written.Buckets (length file / 16), file ++ drop (length file) out)
+  pub loaded_saved : (g : Opening) (file : List ℕ) (l : List ℤ) (t : State) (out : List ℕ) → AllBytes file → (loaded g file l).0 ≡ Ok t → length file ≤ length out
+      → save_outcome t (loaded g file l).1 out ≡ (Ok (length file / 16), file ++ drop (length file) out)
 
 -- Demand 3: nobody could have served better with half as many steps.
 pub record Demand3 : Type 0 where
   -- it is said of every accepted opening, by B or by C, odd or even, in either edition
-  pub begins : (g : Opening) (l : List ℤ) {s : State} {m : List ℤ} → opened g l ≡ (accepted s, m) → Reached g [] s m
+  pub begins : (g : Opening) (l : List ℤ) {s : State} {m : List ℤ} → opened g l ≡ (Ok s, m) → Reached g [] s m
   -- and of every accepted replay: what it leaves is reached by the opening of a late trace and its accepted records, each a late reading at its tick
-  pub replays : (size : Size) (gaps edition : ℕ) (recording : List ℕ) (l : List ℤ) {c : Course} {m : List ℤ} → replay_outcome size gaps edition recording l ≡ (accepted c, m)
+  pub replays : (size : Size) (gaps edition : ℕ) (recording : List ℕ) (l : List ℤ) {c : Course} {m : List ℤ} → replay_outcome size gaps edition recording l ≡ (Ok c, m)
       → Reached (record { kind = Late; size = size; gaps = gaps; edition = edition }) (readings_of c.landed) c.state m
   -- and after many readings at one call, refused or not: what it leaves is reached, with the accepted ones as readings, in order at the ticks that come next, late each at its own
   pub many_next : {g : Opening} {rs : List Reading} {s : State} {l : List ℤ} → Reached g rs s l → (vs : List ℤ) → AllSigned vs → let f = next_many s l vs in

@@ -7,14 +7,13 @@ ghost use Rattle.listing.specs.Feeding.{rest_fed};
 
 use lines::line_ended;
 use listing::Feeding;
-use trace::Answer;
 
 // The input's end.
 pub fn rest(f: Feeding, room: &mut [i64], line: &[u8]) -> Feeding
     ensures { (result, room.new) ≡ rest_fed f.last f room.old line.now }
 {
     let last = f.last;
-    let Answer::Accepted(t) = last else {
+    let Ok(t) = last else {
         return f;
     };
     if f.filled == 0 {

@@ -1,6 +1,6 @@
 // The arithmetic of two readings.
 
-#![tactic(auto)]
+#![tactic(auto, using(std::proofs::lemmas::Int::ints), unfolding(rule::specs::Bucket::distance, rule::specs::Bucket::larger, rule::specs::Bucket::lesser))]
 
 ghost use Rattle.std.specs.Prelude.{◌≡◌};
 ghost use Rattle.rule.specs.Bucket.{distance, larger, lesser, middle};
@@ -9,8 +9,7 @@ ghost use Rattle.rule.specs.Bucket.{distance, larger, lesser, middle};
 pub fn distance(a: i32, b: i32) -> u32
     ensures { result ≡ distance a b }
 {
-    let d = a as i64 - b as i64;
-    if d < 0 { (-d) as u32 } else { d as u32 }
+    a.abs_diff(b)
 }
 
 // Half the sum of two readings, widened so that no sum wraps, rounded down.
@@ -28,11 +27,11 @@ pub fn middle(a: i32, b: i32) -> i32
 pub fn lesser(a: i32, b: i32) -> i32
     ensures { result ≡ lesser a b }
 {
-    if a <= b { a } else { b }
+    a.min(b)
 }
 
 pub fn larger(a: i32, b: i32) -> i32
     ensures { result ≡ larger a b }
 {
-    if a <= b { b } else { a }
+    a.max(b)
 }

@@ -5,26 +5,23 @@
 ghost use Rattle.std.specs.Prelude.{◌≡◌};
 ghost use Rattle.plain.specs.Plain.{recounting};
 
+use course::Fed;
 use fields::{fields_of, none};
 use plain::Recount;
-use replay::Replayed;
+use rule::Refusal;
 
-pub fn recounting(a: Replayed) -> Recount
+pub fn recounting(a: Result<Fed, Refusal>) -> Recount
     ensures { result ≡ recounting a }
 {
     match a {
-        Replayed::Done {
-            trace,
-            accepted,
-            refused,
-        } => Recount {
+        Ok(fed) => Recount {
             refusal: 0,
             place: 0,
-            state: fields_of(trace.state),
-            accepted,
-            refused,
+            state: fields_of(fed.trace.state),
+            accepted: fed.accepted,
+            refused: fed.refused,
         },
-        Replayed::Refused(r) => Recount {
+        Err(r) => Recount {
             refusal: refusal::number(r),
             place: refusal::place(r),
             state: none(),

@@ -9,12 +9,13 @@ use lib.ListN.{length}
 use Rattle.rule.specs.declared.Refusal.{Refusal}
 use Rattle.rule.specs.declared.Opening.{Opening}
 use Rattle.rule.specs.declared.Settings.{Settings}
-use Rattle.rule.specs.Calls.{Verdict, accepted, admitted, checked, file_verdict, kept, loaded, opened, refused, traced}
+use Rattle.rule.specs.Calls.{Verdict, admitted, checked, file_verdict, kept, loaded, opened, traced}
 use Rattle.rule.specs.Numbers.{slot_width}
 use Rattle.rule.specs.Room.{base_good, edition_good, gaps_good, roomy}
 use Rattle.rule.specs.Table.{Table, needed}
 use Rattle.rule.proofs.Checks.{Unrefused, past_checks}
 use Rattle.rooms.proofs.Bounds.{size_base}
+use Rattle.std.specs.Prelude.{Ok, Err}
 
 -- ---- settings and room that are admitted
 
@@ -36,14 +37,14 @@ admitted_kept o p e l v =
     (ap (λ (s : Settings). checked ((not (edition_good s.edition), Refusal.Edition) ∷ (not (base_good s.base), Refusal.Steps) ∷ (not (gaps_good s.kind s.gaps), Refusal.Gaps) ∷ (not (roomy s l), Refusal.Room) ∷ []) v) e)
 
 pub opened_kept : (o p : Opening) → kept o ≡ kept p → (l : List ℤ) → opened o l ≡ opened p l
-opened_kept o p e l = ap (λ (s : Settings). traced s l (admitted o l (accepted []))) e ∙ ap (traced (kept p) l) (admitted_kept o p e l (accepted []))
+opened_kept o p e l = ap (λ (s : Settings). traced s l (admitted o l (Ok []))) e ∙ ap (traced (kept p) l) (admitted_kept o p e l (Ok []))
 
 pub loaded_kept : (o p : Opening) → kept o ≡ kept p → (file : List ℕ) (l : List ℤ) → loaded o file l ≡ loaded p file l
 loaded_kept o p e file l =
     ap (λ (s : Settings). traced s l (admitted o l (file_verdict s file))) e ∙ ap (traced (kept p) l) (admitted_kept o p e l (file_verdict (kept p) file))
 
 -- what open and load ask, passed
-pub past_admission : (o : Opening) (l : List ℤ) (v : Verdict Table) (P : Verdict Table → Type 0) → ((r : Refusal) → P (refused r)) → (Granted (kept o) l → P v) → P (admitted o l v)
+pub past_admission : (o : Opening) (l : List ℤ) (v : Verdict Table) (P : Verdict Table → Type 0) → ((r : Refusal) → P (Err r)) → (Granted (kept o) l → P v) → P (admitted o l v)
 unfolding admitted roomy Unrefused
 past_admission o l v P refuses passed =
     past_checks P refuses _ v

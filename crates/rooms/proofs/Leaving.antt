@@ -13,7 +13,7 @@ use Rattle.rule.specs.declared.Refusal.{Refusal}
 use Rattle.rule.specs.declared.Opening.{Opening}
 use Rattle.rule.specs.declared.Settings.{Settings}
 use Rattle.rule.specs.declared.State.{State}
-use Rattle.rule.specs.Calls.{Verdict, accepted, admitted, is_held, kept, late, late_outcome, late_verdict, next_outcome, next_verdict, opened, refused, traced}
+use Rattle.rule.specs.Calls.{Verdict, admitted, is_held, kept, late, late_outcome, late_verdict, next_outcome, next_verdict, opened, traced}
 use Rattle.rule.specs.Numbers.{word}
 use Rattle.rule.specs.Room.{runs_allowed, table_of}
 use Rattle.rule.specs.Table.{Table, accept, holding, next_tick, runs}
@@ -27,12 +27,13 @@ use Rattle.rooms.specs.Steps.{Ready, with}
 use Rattle.rooms.proofs.Arriving.{Passed}
 use Rattle.rooms.proofs.Passing.{late_passed, next_passed}
 use Rattle.rooms.proofs.Taking.{taken_sound}
+use Rattle.std.specs.Prelude.{Ok, Err}
 
 -- the outcome of a verdict leaves a sound trace
 abbrev pub Leaves : Settings → List ℤ → Verdict Table → Type 0
 Leaves s l v = LeavesSound (traced s l v)
 
-pub refused_leaves : (s : Settings) (l : List ℤ) (r : Refusal) → Leaves s l (refused r)
+pub refused_leaves : (s : Settings) (l : List ℤ) (r : Refusal) → Leaves s l (Err r)
 unfolding traced LeftBy
 refused_leaves s l r = tt
 
@@ -41,31 +42,31 @@ unfolding runs_allowed
 none_allowed InOrder gaps = refl
 none_allowed Late gaps = lib.Dec.leb-zero gaps
 
-empty_leaves : (s : Settings) (l : List ℤ) → Granted s l → Leaves s l (accepted [])
+empty_leaves : (s : Settings) (l : List ℤ) → Granted s l → Leaves s l (Ok [])
 unfolding traced LeftBy runs Ruled Fitted
 empty_leaves s l g = facts_sound _ _ (laid_facts s [] l g.edition g.base g.gaps (none_allowed s.kind s.gaps) g.long (omega arith) tt tt)
 
-pub open_either : (o : Opening) (l : List ℤ) (P : Verdict Table → Type 0) → ((r : Refusal) → P (refused r)) → (Granted (kept o) l → P (accepted [])) → P (admitted o l (accepted []))
-open_either o l = past_admission o l (accepted [])
+pub open_either : (o : Opening) (l : List ℤ) (P : Verdict Table → Type 0) → ((r : Refusal) → P (Err r)) → (Granted (kept o) l → P (Ok [])) → P (admitted o l (Ok []))
+open_either o l = past_admission o l (Ok [])
 
 pub open_leaves : (o : Opening) (l : List ℤ) → LeavesSound (opened o l)
 open_leaves o l = open_either o l (Leaves (kept o) l) (refused_leaves (kept o) l) (empty_leaves (kept o) l)
 
 -- a reading that is ready to be taken leaves a sound trace
-pub taken_leaves : (s : State) (l : List ℤ) (at k tick : ℕ) (v : ℤ) → Ready s l at k tick v → SFits w32 v → tick < word → Leaves s.settings l (accepted (accept s.settings (table_of s l) tick v))
+pub taken_leaves : (s : State) (l : List ℤ) (at k tick : ℕ) (v : ℤ) → Ready s l at k tick v → SFits w32 v → tick < word → Leaves s.settings l (Ok (accept s.settings (table_of s l) tick v))
 unfolding traced LeftBy
 taken_leaves s l at k tick v r fits small = taken_sound s l at k tick v r fits small
 
 -- ---- what holds of every refusal, and of a reading that is ready to be taken, holds of a reading
 
-module _ (s : State) (l : List ℤ) (v : ℤ) (P : Verdict Table → Type 0) (no : (r : Refusal) → P (refused r)) where
-  pub next_either : (late s.settings.kind ≡ false → Ready s l s.used 1 (next_tick (table_of s l)) v → next_tick (table_of s l) < word → P (accepted (accept s.settings (table_of s l) (next_tick (table_of s l)) v)))
+module _ (s : State) (l : List ℤ) (v : ℤ) (P : Verdict Table → Type 0) (no : (r : Refusal) → P (Err r)) where
+  pub next_either : (late s.settings.kind ≡ false → Ready s l s.used 1 (next_tick (table_of s l)) v → next_tick (table_of s l) < word → P (Ok (accept s.settings (table_of s l) (next_tick (table_of s l)) v)))
       → P (next_verdict s l v)
   unfolding next_verdict
   next_either = next_passed s l v P no _
 
   pub late_either : (tick : ℕ)
-      → (Passed s l tick → is_held (holding tick (table_of s l)) ≡ false → Ready s l (position tick (table_of s l)) (runs (with s l tick v)) tick v → tick < word → P (accepted (accept s.settings (table_of s l) tick v)))
+      → (Passed s l tick → is_held (holding tick (table_of s l)) ≡ false → Ready s l (position tick (table_of s l)) (runs (with s l tick v)) tick v → tick < word → P (Ok (accept s.settings (table_of s l) tick v)))
       → P (late_verdict s l tick v)
   unfolding late_verdict
   late_either tick = late_passed s l v P no _ tick

@@ -1,5 +1,5 @@
 -- What each call answers and leaves: the refusals first, in document 01's order, the first that holds being the one given.
-use Rattle.std.specs.Prelude.{ℕ, ◌+◌, ◌*◌, ◌-◌, ◌%◌, min, Bool, true, false, cond, not, List, [], ◌∷◌, ◌++◌, eqb, leb, ltb, ℤ, length, drop}
+use Rattle.std.specs.Prelude.{ℕ, ◌+◌, ◌*◌, ◌-◌, ◌%◌, min, Bool, true, false, cond, not, List, [], ◌∷◌, ◌++◌, eqb, leb, ltb, ℤ, length, drop, Result, Ok, Err}
 use Rattle.std.proofs.Math.Option.{Option, some, none}
 use Rattle.rule.specs.declared.Bucket.{Bucket}
 use Rattle.rule.specs.declared.Kind.{Kind}
@@ -11,8 +11,6 @@ use Rattle.rule.specs.declared.Size.TheVariants.{Steps, Base}
 use Rattle.rule.specs.declared.State.{State}
 use Rattle.rule.specs.declared.Refusal.{Refusal}
 use Rattle.rule.specs.declared.Found.{Found}
-use Rattle.rule.specs.declared.Measured.{Measured}
-use Rattle.rule.specs.declared.Written.{Written}
 use Rattle.rule.specs.declared.Tally.{Tally}
 use Rattle.rule.specs.Numbers.{most, ticks, record_width, tally_most}
 use Rattle.rule.specs.Bucket.{level, error}
@@ -23,9 +21,8 @@ use Rattle.rule.specs.Bytes.{records_of, saved}
 
 -- ---- a refusal, or what was asked
 
-pub data Verdict (A : Type 0) : Type 0 where
-  refused : Refusal → Verdict A
-  accepted : A → Verdict A
+abbrev pub Verdict : Type 0 → Type 0
+Verdict A = Result A Refusal
 
 -- a test, and the refusal that is given where it holds
 abbrev pub Check : Type 0
@@ -34,7 +31,7 @@ Check = Bool × Refusal
 -- the first refusal whose test holds is the one given; where none does, go on
 unfoldable pub checked : {A : Type 0} → List Check → Verdict A → Verdict A
 checked [] v = v
-checked (c ∷ l) v = cond c.0 (refused c.1) (checked l v)
+checked (c ∷ l) v = cond c.0 (Err c.1) (checked l v)
 
 -- the state of a trace whose buckets are t
 abbrev pub state_of : Settings → Table → State
@@ -42,18 +39,18 @@ state_of s t = record { settings = s; used = length t; runs = runs t; readings =
 
 -- the state to go on with: after a refusal the one there was
 unfoldable pub onward : State → Verdict State → State
-onward s (refused r) = s
-onward s (accepted t) = t
+onward s (Err r) = s
+onward s (Ok t) = t
 
 -- the answer and the room afterwards, of a call that leaves the trace with the buckets t; a refusal leaves the room as it stood
 unfoldable pub traced : Settings → List ℤ → Verdict Table → Verdict State × List ℤ
-traced s l (refused r) = (refused r, l)
-traced s l (accepted t) = (accepted (state_of s t), laid (needed s) t l)
+traced s l (Err r) = (Err r, l)
+traced s l (Ok t) = (Ok (state_of s t), laid (needed s) t l)
 
 -- the answer and the output afterwards, of a call that writes what `form` makes of the buckets t; what lies past it is as it was
-unfoldable pub wrote : {A : Type 0} → (Table → List A) → List A → Verdict Table → Written × List A
-wrote form out (refused r) = (Written.Refused r, out)
-wrote form out (accepted t) = (Written.Buckets (length t), form t ++ drop (length (form t)) out)
+unfoldable pub wrote : {A : Type 0} → (Table → List A) → List A → Verdict Table → Verdict ℕ × List A
+wrote form out (Err r) = (Err r, out)
+wrote form out (Ok t) = (Ok (length t), form t ++ drop (length (form t)) out)
 
 unfoldable pub late : Kind → Bool
 late InOrder = false
@@ -91,7 +88,7 @@ admitted o l v =
     ∷ []) v
 
 abbrev pub opened : Opening → List ℤ → Verdict State × List ℤ
-opened o l = traced (kept o) l (admitted o l (accepted []))
+opened o l = traced (kept o) l (admitted o l (Ok []))
 
 -- ---- readings: 4, 5, 6, 11, 9
 
@@ -104,7 +101,7 @@ next_checks s l =
     ∷ []
 
 unfoldable pub next_verdict : State → List ℤ → ℤ → Verdict Table
-next_verdict s l v = checked (next_checks s l) (accepted (accept s.settings (table_of s l) (next_tick (table_of s l)) v))
+next_verdict s l v = checked (next_checks s l) (Ok (accept s.settings (table_of s l) (next_tick (table_of s l)) v))
 
 abbrev pub next_outcome : State → List ℤ → ℤ → Verdict State × List ℤ
 next_outcome s l v = traced s.settings l (next_verdict s l v)
@@ -124,37 +121,33 @@ late_checks s l tick v =
     ∷ []
 
 unfoldable pub late_verdict : State → List ℤ → ℕ → ℤ → Verdict Table
-late_verdict s l tick v = checked (late_checks s l tick v) (accepted (accept s.settings (table_of s l) tick v))
+late_verdict s l tick v = checked (late_checks s l tick v) (Ok (accept s.settings (table_of s l) tick v))
 
 abbrev pub late_outcome : State → List ℤ → ℕ → ℤ → Verdict State × List ℤ
 late_outcome s l tick v = traced s.settings l (late_verdict s l tick v)
 
 -- ---- lookup: 4, 6, 12
 
-unfoldable pub found : Option Bucket → Found
-found none = Found.Refused Refusal.Absent
-found (some b) = Found.Level (level b) (error b) b.least b.largest
+unfoldable pub found : Option Bucket → Verdict Found
+found none = Err Refusal.Absent
+found (some b) = Ok (record { level = level b; error = error b; least = b.least; largest = b.largest })
 
-unfoldable pub found_of : Verdict (Option Bucket) → Found
-found_of (refused r) = Found.Refused r
-found_of (accepted b) = found b
+unfoldable pub found_of : Verdict (Option Bucket) → Verdict Found
+found_of (Err r) = Err r
+found_of (Ok b) = found b
 
-unfoldable pub lookup_outcome : State → List ℤ → ℕ → Found
+unfoldable pub lookup_outcome : State → List ℤ → ℕ → Verdict Found
 lookup_outcome s l tick =
     found_of
     (checked
     ((not (sound s l), Refusal.Unsound)
     ∷ (leb ticks tick, Refusal.Tick)
-    ∷ []) (accepted (holding tick (table_of s l))))
+    ∷ []) (Ok (holding tick (table_of s l))))
 
 -- ---- the worst error: 4
 
-unfoldable pub measured : Verdict ℕ → Measured
-measured (refused r) = Measured.Refused r
-measured (accepted e) = Measured.Error e
-
-unfoldable pub worst_outcome : State → List ℤ → Measured
-worst_outcome s l = measured (checked ((not (sound s l), Refusal.Unsound) ∷ []) (accepted (worst (table_of s l))))
+unfoldable pub worst_outcome : State → List ℤ → Verdict ℕ
+worst_outcome s l = checked ((not (sound s l), Refusal.Unsound) ∷ []) (Ok (worst (table_of s l)))
 
 -- ---- row and save: 4, 13
 
@@ -164,12 +157,12 @@ write_verdict s l taken room =
     checked
     ((not (sound s l), Refusal.Unsound)
     ∷ (ltb room taken, Refusal.Short)
-    ∷ []) (accepted (table_of s l))
+    ∷ []) (Ok (table_of s l))
 
-abbrev pub row_outcome : State → List ℤ → List Bucket → Written × List Bucket
+abbrev pub row_outcome : State → List ℤ → List Bucket → Verdict ℕ × List Bucket
 row_outcome s l out = wrote (λ t. t) out (write_verdict s l s.used (length out))
 
-abbrev pub save_outcome : State → List ℤ → List ℕ → Written × List ℕ
+abbrev pub save_outcome : State → List ℤ → List ℕ → Verdict ℕ × List ℕ
 save_outcome s l out = wrote saved out (write_verdict s l (record_width * s.used) (length out))
 
 -- ---- load: 16, 1, 2, 3, 7, 8, 9, 10
@@ -182,7 +175,7 @@ file_verdict s file =
     ∷ (not (ruled s.kind (records_of file)), Refusal.Record (place_or 0 (first_fault s.kind 0 0 (records_of file))))
     ∷ (not (runs_allowed s.kind s.gaps (runs (records_of file))), Refusal.Runs)
     ∷ (ltb (limit s (runs (records_of file))) (length (records_of file)), Refusal.Overfull)
-    ∷ []) (accepted (records_of file))
+    ∷ []) (Ok (records_of file))
 
 abbrev pub load_verdict : Opening → List ℕ → List ℤ → Verdict Table
 load_verdict o file l = admitted o l (file_verdict (kept o) file)
@@ -198,6 +191,6 @@ grown n by = min (n + by) tally_most
 
 -- after a reading on a trace with so many slots in use before: its merges are those and the new bucket, less the slots in use after it
 unfoldable pub counted : Tally → ℕ → Verdict State → Tally
-counted t before (refused r) = record { accepted = t.accepted; refused = grown t.refused 1; merges = t.merges }
-counted t before (accepted s) =
+counted t before (Err r) = record { accepted = t.accepted; refused = grown t.refused 1; merges = t.merges }
+counted t before (Ok s) =
     record { accepted = grown t.accepted 1; refused = t.refused; merges = grown t.merges (before + 1 - s.used) }

@@ -87,30 +87,13 @@ pub enum Refusal {
     Edition,
 }
 
-// What lookup answers: the holding bucket's level, error, least and largest.
+// What lookup finds: the holding bucket's level, error, least and largest.
 #[derive(Clone, Copy)]
-pub enum Found {
-    Level {
-        level: i32,
-        error: u32,
-        least: i32,
-        largest: i32,
-    },
-    Refused(Refusal),
-}
-
-// What the worst error answers: the greatest error of a bucket, 0 where there is none.
-#[derive(Clone, Copy)]
-pub enum Measured {
-    Error(u32),
-    Refused(Refusal),
-}
-
-// What row and save answer: the number of buckets written.
-#[derive(Clone, Copy)]
-pub enum Written {
-    Buckets(usize),
-    Refused(Refusal),
+pub struct Found {
+    pub level: i32,
+    pub error: u32,
+    pub least: i32,
+    pub largest: i32,
 }
 
 // The session tally. Each count stops at the largest u32.

@@ -13,16 +13,6 @@ use Rattle.rule.specs.Rules.{broken, first_false, rules}
 use Rattle.rule.proofs.Whole.{cond_ind}
 use Rattle.rules.specs.Numbered.{meets}
 
-pub no_other : (n : ℕ) (k : Kind) (e : ℕ) (b : Bucket) → (n ≡ 1 → ⊥) → (n ≡ 2 → ⊥) → (n ≡ 3 → ⊥) → (n ≡ 4 → ⊥) → (n ≡ 5 → ⊥) → meets n k e b ≡ true
-unfolding meets rules
-no_other zero k e b h1 h2 h3 h4 h5 = refl
-no_other (suc zero) k e b h1 h2 h3 h4 h5 = absurd (h1 refl)
-no_other (suc (suc zero)) k e b h1 h2 h3 h4 h5 = absurd (h2 refl)
-no_other (suc (suc (suc zero))) k e b h1 h2 h3 h4 h5 = absurd (h3 refl)
-no_other (suc (suc (suc (suc zero)))) k e b h1 h2 h3 h4 h5 = absurd (h4 refl)
-no_other (suc (suc (suc (suc (suc zero))))) k e b h1 h2 h3 h4 h5 = absurd (h5 refl)
-no_other (suc (suc (suc (suc (suc (suc n)))))) k e b h1 h2 h3 h4 h5 = refl
-
 none_false : (i : ℕ) (l : List Bool) (n : ℕ) → first_false (suc i) l ≡ 0 → get_or l n true ≡ true
 unfolding first_false
 none_false i [] n h = refl
@@ -44,9 +34,6 @@ module _ (k : Kind) (e : ℕ) (b : Bucket) where
   pub none_asked : MetBelow 1
   unfolding meets
   none_asked = (omega arith, below_more _ 0 (below_none _) refl)
-
-  pub one_more : (n : ℕ) → n ≤ 5 → MetBelow n → meets n k e b ≡ true → MetBelow (n + 1)
-  one_more n h m f = (omega arith, below_more _ n m.1 f)
 
   pub met : broken k e b ≡ 0 → (n : ℕ) → meets n k e b ≡ true
   unfolding meets broken

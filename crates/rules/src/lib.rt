@@ -1,6 +1,6 @@
 // The record rules, each asked by its number and all at once, and where a run begins. No other place of the code knows them.
 
-#![tactic(auto)]
+#![tactic(auto, using(rule::proofs::Signed::equal_bits), unfolding(rule::specs::Rules::broken, rule::specs::Rules::first_false, rule::specs::Rules::follows, rule::specs::Rules::rules, crate::specs::Numbered::meets))]
 
 ghost use Rattle.std.specs.Prelude.{◌≡◌, cond, eqb};
 ghost use Rattle.rule.specs.Rules.{broken, follows};
@@ -41,26 +41,23 @@ pub fn first_broken(kind: Kind, end: usize, b: Bucket) -> usize
     ensures { result ≡ broken kind end b }
 {
     if !meets(1, kind, end, b) {
-        return 1;
+        1
+    } else if !meets(2, kind, end, b) {
+        2
+    } else if !meets(3, kind, end, b) {
+        3
+    } else if !meets(4, kind, end, b) {
+        4
+    } else if !meets(RULES, kind, end, b) {
+        RULES
+    } else {
+        0
     }
-    if !meets(2, kind, end, b) {
-        return 2;
-    }
-    if !meets(3, kind, end, b) {
-        return 3;
-    }
-    if !meets(4, kind, end, b) {
-        return 4;
-    }
-    if !meets(RULES, kind, end, b) {
-        return RULES;
-    }
-    0
 }
 
 // 1 where the bucket begins a run, the one before it ending at `end`.
 pub fn starts_run(end: usize, b: Bucket) -> usize
     ensures { result ≡ cond (eqb «end» b.start) 0 1 }
 {
-    if end == b.start as usize { 0 } else { 1 }
+    (end != b.start as usize) as usize
 }

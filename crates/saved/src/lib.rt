@@ -9,7 +9,7 @@ ghost use Rattle.rule.specs.Calls.{save_outcome};
 ghost use Rattle.rule.specs.Room.{slots};
 ghost use Rattle.rooms.specs.Slots.{Filled};
 
-use rule::{RECORD, Refusal, Written};
+use rule::{RECORD, Refusal};
 use sound::sound;
 use trace::Trace;
 
@@ -18,24 +18,22 @@ fn save_slots(room: &[i64], used: usize, out: &mut [u8])
     requires { Filled room.now used × (record_width * used ≤ length out.old) }
     ensures { out.new ≡ saved (slots room.now 0 used) ++ drop (record_width * used) out.old }
 {
-    let mut i = 0;
-    while i < used {
+    for i in 0..used {
         record::write(&mut *out, i, slots::read(room, i));
-        i += 1;
     }
 }
 
 // The buckets in tick order, a record each.
-pub fn save(trace: Trace, room: &[i64], out: &mut [u8]) -> Written
+pub fn save(trace: Trace, room: &[i64], out: &mut [u8]) -> Result<usize, Refusal>
     ensures { (result, out.new) ≡ save_outcome trace.state room.now out.old }
 {
     let s = trace.state;
     if !sound(s, room) {
-        return Written::Refused(Refusal::Unsound);
+        return Err(Refusal::Unsound);
     }
     if out.len() < RECORD * s.used {
-        return Written::Refused(Refusal::Short);
+        return Err(Refusal::Short);
     }
     save_slots(room, s.used, &mut *out);
-    Written::Buckets(s.used)
+    Ok(s.used)
 }

@@ -2,7 +2,7 @@
 
 #![tactic(auto)]
 
-ghost use Rattle.std.specs.Prelude.{◌≡◌, ◌-◌, ◌<◌, ◌^◌, max, pos};
+ghost use Rattle.std.specs.Prelude.{◌≡◌, ◌<◌, ◌^◌, pos};
 ghost use Rattle.rule.specs.Room.{slots};
 ghost use Rattle.rule.specs.Table.{Ordered};
 ghost use Rattle.rooms.specs.Slots.{Filled};
@@ -29,12 +29,10 @@ pub fn view(room: &[i64], used: usize) -> View
     let last = slots::read(room, used - 1);
     let mut top = bucket::level(first);
     let mut low = top;
-    let mut i = 1;
-    while i < used {
+    for i in 1..used {
         let z = bucket::level(slots::read(room, i));
         top = larger(top, z);
         low = lesser(low, z);
-        i += 1;
     }
     View {
         first: first.start as usize,
@@ -44,25 +42,17 @@ pub fn view(room: &[i64], used: usize) -> View
     }
 }
 
-// How far a tick is beyond another, 0 where it is not.
-fn beyond(tick: usize, first: usize) -> usize
-    ensures { result ≡ tick - first }
-{
-    if tick < first {
-        return 0;
-    }
-    tick - first
-}
-
 // Where a tick stands.
+#[tactic(auto, unfolding(drawing::specs::Picture::across))]
 fn across(v: View, tick: usize) -> usize
     requires { (0 < v.span) × (tick < 2 ^ 40) }
     ensures { result ≡ across v tick }
 {
-    100 + beyond(tick, v.first) * 9800 / v.span
+    100 + tick.saturating_sub(v.first) * 9800 / v.span
 }
 
 // Where a bucket starts.
+#[tactic(auto, using(crate::proofs::Viewing::across_small))]
 pub fn start_of(v: View, b: Bucket) -> i64
     requires { 0 < v.span }
     ensures { result ≡ pos (start_of v b) }
@@ -70,23 +60,18 @@ pub fn start_of(v: View, b: Bucket) -> i64
     across(v, b.start as usize) as i64
 }
 
-// The larger of two numbers.
-fn further(a: usize, b: usize) -> usize
-    ensures { result ≡ max a b }
-{
-    if a < b { b } else { a }
-}
-
 // Where a bucket ends, one further than it starts or more.
+#[tactic(auto, using(crate::proofs::Viewing::across_small))]
 pub fn end_of(v: View, b: Bucket) -> i64
     requires { 0 < v.span }
     ensures { result ≡ pos (end_of v b) }
 {
     let start = across(v, b.start as usize);
-    further(across(v, bucket::end(b)), start + 1) as i64
+    across(v, bucket::end(b)).max(start + 1) as i64
 }
 
 // Where a level stands.
+#[tactic(auto, unfolding(drawing::specs::Picture::down))]
 pub fn down(v: View, z: i32) -> i64
     ensures { result ≡ pos (down v z) }
 {

@@ -1,16 +1,15 @@
 -- The better of the neighbours that were met and others.
 use Prim.Native.Nat.{ℕ, suc, ◌<◌}
 use mathlib.Core.Path.{◌≡◌, refl}
-use mathlib.Core.Bool.{Bool, true, false, cond}
+use mathlib.Core.Bool.{true, false}
 use mathlib.Core.List.{[], ◌∷◌}
-use mathlib.Core.Logic.{inl}
 use native.Mathlib.Omega.{arith}
 use lib.Dec.{eqb}
 use Rattle.rule.specs.declared.Bucket.{Bucket}
 use Rattle.rule.specs.Bucket.{neighbours, spread, union}
 use Rattle.rule.specs.Numbers.{word}
 use Rattle.rule.specs.Table.{Choice, Table, ahead, cheaper, cheapest, choice, nothing, pair, weight}
-use Rattle.rule.proofs.Merging.{ahead_least, ahead_trans, is_ahead}
+use Rattle.rule.proofs.Merging.{ahead_least, ahead_trans}
 use Rattle.rule.proofs.Whole.{by_test, cond_ind}
 use Rattle.rooms.specs.Slots.{cost_of, place_of}
 use Rattle.rooms.proofs.Scoring.{Below, behind}
@@ -45,15 +44,6 @@ pub better_cost : (q : Choice) → Below q → (better unmet q).cost ≡ cost_of
 unfolding Below better cost_of
 better_cost nothing h = refl
 better_cost (pair i s w) h = rw (met s w h)
-
--- two buckets that cost more, as they do where they are no neighbours
-pub dear_kept : (m : Best) (e p : ℕ) (x y : Bucket) → m.cost < cond (neighbours x y) (spread (union x y)) word → better m (choice e p x y) ≡ m
-unfolding better choice
-dear_kept m e p x y = go (neighbours x y)
-  where
-    go : (n : Bool) → m.cost < cond n (spread (union x y)) word → better m (cond n (pair p (spread (union x y)) (weight e (union x y))) nothing) ≡ m
-    go true h = rw (is_ahead m.cost m.ticks (spread (union x y)) (weight e (union x y)) (inl h))
-    go false h = refl
 
 -- ---- without ticks
 

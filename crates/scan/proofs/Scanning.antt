@@ -17,27 +17,34 @@ use Rattle.scan.specs.declared.Best.{Best}
 use Rattle.scan.specs.Best.{better, unmet}
 use Rattle.scan.proofs.Keeping.{better_both, better_cost, better_place}
 
--- at slot i: the best so far, and what is left to look at, make the whole
+-- slot i comes next: the best so far, and what is left to look at from the slot before it on, make the whole
 pub record Passed (d : ℕ) (l : List ℤ) (from to shift : ℕ) (met best : Best) (i : ℕ) : Type 0 where
-  pub reached : i ≤ to
-  pub left : better best (cheapest d (i + shift) (slots l i (to - i))) ≡ better met (cheapest d (from + shift) (slots l from (to - from)))
+  pub last : ℕ
+  pub next : last + 1 ≡ i
+  pub reached : last ≤ to
+  pub left : better best (cheapest d (last + shift) (slots l last (to - last))) ≡ better met (cheapest d (from + shift) (slots l from (to - from)))
 
-pub passed_start : (d : ℕ) (l : List ℤ) (from to shift : ℕ) (met : Best) → from ≤ to → Passed d l from to shift met met from
-passed_start d l from to shift met h = record { reached = h; left = refl }
+pub passed_start : (d : ℕ) (l : List ℤ) (from to shift : ℕ) (met : Best) → from ≤ to → Passed d l from to shift met met (from + 1)
+passed_start d l from to shift met h = record { last = from; next = refl; reached = h; left = refl }
 
 module _ {d : ℕ} {l : List ℤ} {from to shift : ℕ} {met best : Best} {i : ℕ} (p : Passed d l from to shift met best i) where
-  pub passed_step : i + 1 < to → Passed d l from to shift met (better best (choice d (i + shift) (slot l i) (slot l (i + 1)))) (i + 1)
+  pub passed_step : i < to → Passed d l from to shift met (better best (choice d (i - 1 + shift) (slot l (i - 1)) (slot l i))) (i + 1)
   passed_step h =
-      let q = choice d (i + shift) (slot l i) (slot l (i + 1)) in
-      let next : i + 1 + shift ≡ suc (i + shift) = omega arith in
+      let j = p.last in
+      let before : i - 1 ≡ j = omega (arith, p.next) in
+      let after : j + 1 + shift ≡ suc (j + shift) = omega arith in
+      let more : j + 1 < to = omega (arith, p.next) in
+      let q = choice d (j + shift) (slot l j) (slot l (j + 1)) in
       record {
+        last = i;
+        next = refl;
         reached = omega arith;
-        left = rw next (better_both best q (cheapest d (suc (i + shift)) (slots l (i + 1) (to - (i + 1))))) ∙ ap (better best) (sym (cheapest_next l to d i (i + shift) h)) ∙ p.left;
+        left = rw (before, ← p.next, after) (better_both best q (cheapest d (suc (j + shift)) (slots l (j + 1) (to - (j + 1))))) ∙ ap (better best) (sym (cheapest_next l to d j (j + shift) more)) ∙ p.left;
       }
 
-  pub passed_end : to ≤ i + 1 → best ≡ better met (cheapest d (from + shift) (slots l from (to - from)))
+  pub passed_end : to ≤ i → best ≡ better met (cheapest d (from + shift) (slots l from (to - from)))
   unfolding better
-  passed_end h = ap (better best) (sym (cheapest_last l to d i (i + shift) h)) ∙ p.left
+  passed_end h = ap (better best) (sym (cheapest_last l to d p.last (p.last + shift) (omega (arith, p.next)))) ∙ p.left
 
 -- ---- with the bucket behind the first slots
 

@@ -1,6 +1,6 @@
 // The cheapest neighbours met in one pass over slots, which asks for slots that are there and hold buckets, as they are in a sound trace, and for ticks in edition 2 alone.
 
-#![tactic(auto)]
+#![tactic(auto, unfolding(rule::specs::Table::ahead, rule::specs::Table::choice, rule::specs::Table::weight, crate::specs::Best::better))]
 
 ghost use Rattle.std.specs.Prelude.{◌≡◌, ◌+◌, ◌-◌, ◌≤◌, cond};
 ghost use Rattle.rule.specs.Room.{slots};
@@ -14,15 +14,23 @@ use rule::{Bucket, WORD};
 use slots::read;
 
 // Above every spread.
-pub const ABOVE: u64 = WORD as u64;
+const ABOVE: u64 = WORD as u64;
 
 // The cheapest neighbours met so far: the place of the first of the two, the spread of their union, above every spread where none were met, and what decides among equal spreads.
+// None met is a cost and no `Option`: one comparison of costs covers both.
 #[derive(Clone, Copy)]
 pub struct Best {
     pub place: usize,
     pub cost: u64,
     pub ticks: u64,
 }
+
+// None met.
+pub const UNMET: Best = Best {
+    place: 0,
+    cost: ABOVE,
+    ticks: 0,
+};
 
 // What was met, and the neighbours among the slots from `from` up to `to`, whose places are `shift` more: one pass, the first of equals kept.
 // The edition is asked once: in edition 1 the compiler then knows that ticks are 0 and compares spreads alone.
@@ -31,19 +39,14 @@ pub fn pass(edition: usize, room: &[i64], from: usize, to: usize, shift: usize, 
     ensures { result ≡ better met (cheapest edition (from + shift) (slots room.now from (to - from))) }
 {
     if edition == 2 {
-        return over(2, room, from, to, shift, met);
+        over::<2>(room, from, to, shift, met)
+    } else {
+        over::<1>(room, from, to, shift, Best { ticks: 0, ..met })
     }
-    let light = Best {
-        place: met.place,
-        cost: met.cost,
-        ticks: 0,
-    };
-    over(1, room, from, to, shift, light)
 }
 
 // The pass itself.
-pub(crate) fn over(
-    edition: usize,
+pub(crate) fn over<const EDITION: usize>(
     room: &[i64],
     from: usize,
     to: usize,
@@ -51,18 +54,22 @@ pub(crate) fn over(
     met: Best,
 ) -> Best
     requires { Filled room.now to × ((from ≤ to) × (shift ≤ 1)) }
-    ensures { result ≡ better met (cheapest edition (from + shift) (slots room.now from (to - from))) }
+    ensures { result ≡ better met (cheapest EDITION (from + shift) (slots room.now from (to - from))) }
 {
     let mut best = met;
-    let mut i = from;
-    while i + 1 < to {
-        best = better(edition, best, i + shift, read(room, i), read(room, i + 1));
-        i += 1;
+    for i in from + 1..to {
+        best = better(
+            EDITION,
+            best,
+            i - 1 + shift,
+            read(room, i - 1),
+            read(room, i),
+        );
     }
     best
 }
 
-// What was met, or two neighbours that stand at a place where they are cheaper.
+// What was met, or two neighbours that stand at a place where they are cheaper. The edition is no const parameter: `inserted` knows it at run time alone.
 pub fn better(edition: usize, met: Best, place: usize, a: Bucket, b: Bucket) -> Best
     ensures { result ≡ better met (choice edition place a b) }
 {
@@ -106,8 +113,5 @@ pub(crate) fn weight(edition: usize, a: Bucket, b: Bucket) -> u64
 pub(crate) fn ahead(s: u64, w: u64, r: u64, x: u64) -> bool
     ensures { result ≡ ahead s w r x }
 {
-    if s < r {
-        return true;
-    }
-    s == r && w <= x
+    s < r || (s == r && w <= x)
 }

@@ -15,37 +15,47 @@ use touches::over;
 use trace::Trace;
 
 // One pass over the slots in use, left at the first bucket that is over. Of the slots it knows only those that no hit stands before.
-pub(crate) fn first_hit(room: &[i64], used: usize, first: u32, last: u32, bar: i32) -> Sought
+pub(crate) fn first_hit(
+    room: &[i64],
+    used: usize,
+    first: u32,
+    last: u32,
+    bar: i32,
+) -> Option<Sought>
     requires { Readable first last bar room.now used }
-    ensures { result ≡ sought (first_over first last bar 0 (slots room.now 0 used)) }
+    ensures { Ok result ≡ sought (first_over first last bar 0 (slots room.now 0 used)) }
 {
-    let mut i = 0;
-    while i < used {
+    for i in 0..used {
         let b = read(room, i);
         if over(first, last, bar, b) {
-            return Sought::At {
+            return Some(Sought {
                 index: i,
                 start: b.start,
-            };
+            });
         }
-        i += 1;
     }
-    Sought::Nowhere
+    None
 }
 
 // The first bucket that holds a tick from `first` to `last` and whose largest reading is at or above the bar.
-pub fn first_over(trace: Trace, room: &[i64], first: u32, last: u32, bar: i32) -> Sought
+pub fn first_over(
+    trace: Trace,
+    room: &[i64],
+    first: u32,
+    last: u32,
+    bar: i32,
+) -> Result<Option<Sought>, Refusal>
     ensures { result ≡ search_outcome trace.state room.now first last bar }
 {
     let s = trace.state;
     if !sound(s, room) {
-        return Sought::Refused(Refusal::Unsound);
+        return Err(Refusal::Unsound);
     }
     if TICKS <= first as usize {
-        return Sought::Refused(Refusal::Tick);
+        return Err(Refusal::Tick);
     }
     if TICKS <= last as usize {
-        return Sought::Refused(Refusal::Tick);
+        return Err(Refusal::Tick);
     }
-    first_hit(room, s.used, first, last, bar)
+    Ok(first_hit(room, s.used, first, last, bar))
 }

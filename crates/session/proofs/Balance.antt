@@ -10,13 +10,12 @@ use mir.Val.{SFits}
 use Rattle.rule.specs.declared.Refusal.{Refusal}
 use Rattle.rule.specs.declared.Opening.{Opening}
 use Rattle.rule.specs.declared.State.{State}
-use Rattle.rule.specs.Calls.{Verdict, accepted, counted, grown, kept, onward, opened, refused, state_of, traced}
+use Rattle.rule.specs.Calls.{Verdict, counted, grown, kept, onward, opened, state_of, traced}
 use Rattle.rule.specs.Numbers.{tally_most, ticks, word}
 use Rattle.rule.specs.Room.{sound, table_of}
 use Rattle.rule.specs.Table.{Table, accept, readings}
 use Rattle.rule.proofs.Signed.{signed_fits}
 use Rattle.rooms.proofs.Sounding.{sound_facts, sound_readings}
-use Rattle.trace.specs.declared.Answer.{Answer}
 use Rattle.trace.specs.Answers.{verdict}
 use Rattle.rooms.specs.Left.{LeavesSound, LeftBy}
 use Rattle.rooms.specs.Steps.{Ready}
@@ -24,39 +23,41 @@ use Rattle.trace.proofs.Verdicts.{verdict_answer}
 use Rattle.rooms.proofs.Leaving.{late_either, next_either, open_either, open_leaves}
 use Rattle.rooms.proofs.Taking.{taken_short, taken_sound, taken_state}
 use Rattle.session.specs.Session.{AlwaysTallied, CallsLeave, GrownTally, Call, Session, TrueTally, accepted_among, accepted_one, after, begun, late, left, next, outcome, refused_among, refused_one}
+use Rattle.trace.specs.declared.Trace.{Trace}
+use Rattle.std.specs.Prelude.{Ok, Err}
 
 -- ---- how the counts grow, on any state and room with any tally
 
 -- each outcome is counted once
 one_each : (v : Verdict State) → accepted_one v + refused_one v ≡ 1
 unfolding accepted_one refused_one
-one_each (refused r) = refl
-one_each (accepted s) = refl
+one_each (Err r) = refl
+one_each (Ok s) = refl
 
 one_accepted : (c : Session) (o : Verdict State × List ℤ) → c.tally.accepted ≤ tally_most → (left c o).tally.accepted ≡ min (c.tally.accepted + accepted_one o.0) tally_most
 unfolding counted grown accepted_one
-one_accepted c (refused r, l) small = omega arith
-one_accepted c (accepted s, l) small = omega arith
+one_accepted c (Err r, l) small = omega arith
+one_accepted c (Ok s, l) small = omega arith
 
 one_refused : (c : Session) (o : Verdict State × List ℤ) → c.tally.refused ≤ tally_most → (left c o).tally.refused ≡ min (c.tally.refused + refused_one o.0) tally_most
 unfolding counted grown refused_one
-one_refused c (refused r, l) small = omega arith
-one_refused c (accepted s, l) small = omega arith
+one_refused c (Err r, l) small = omega arith
+one_refused c (Ok s, l) small = omega arith
 
 merges_one : (c : Session) (o : Verdict State × List ℤ) → c.tally.merges ≤ tally_most → (left c o).tally.merges ≡ min (c.tally.merges + (c.state.used + accepted_one o.0 - (left c o).state.used)) tally_most
 unfolding counted grown onward accepted_one
-merges_one c (refused r, l) small = omega arith
-merges_one c (accepted s, l) small = omega arith
+merges_one c (Err r, l) small = omega arith
+merges_one c (Ok s, l) small = omega arith
 
 module _ (c : Session) where
   abbrev Brings : Verdict Table → Type 0
   Brings v = (left c (traced c.state.settings c.room v)).state.used ≤ c.state.used + accepted_one (traced c.state.settings c.room v).0
 
-  refused_brings : (r : Refusal) → Brings (refused r)
+  refused_brings : (r : Refusal) → Brings (Err r)
   unfolding traced onward accepted_one
   refused_brings r = omega arith
 
-  taken_brings : (at k tick : ℕ) (v : ℤ) → Ready c.state c.room at k tick v → SFits w32 v → tick < word → Brings (accepted (accept c.state.settings (table_of c.state c.room) tick v))
+  taken_brings : (at k tick : ℕ) (v : ℤ) → Ready c.state c.room at k tick v → SFits w32 v → tick < word → Brings (Ok (accept c.state.settings (table_of c.state c.room) tick v))
   unfolding traced onward accepted_one
   taken_brings at k tick v r fits small = omega (arith, taken_short c.state c.room at k tick v r fits small)
 
@@ -114,11 +115,11 @@ module _ (c : Session) (e : Even c) where
   abbrev Stays : Verdict Table → Type 0
   Stays v = Even (left c (traced state.settings room v))
 
-  refused_stays : (r : Refusal) → Stays (refused r)
+  refused_stays : (r : Refusal) → Stays (Err r)
   unfolding traced onward counted
   refused_stays r = record { fit = e.fit; each = omega (arith, e.each) }
 
-  taken_stays : (at k tick : ℕ) (v : ℤ) → Ready state room at k tick v → SFits w32 v → tick < word → Stays (accepted (accept state.settings (table_of state room) tick v))
+  taken_stays : (at k tick : ℕ) (v : ℤ) → Ready state room at k tick v → SFits w32 v → tick < word → Stays (Ok (accept state.settings (table_of state room) tick v))
   unfolding traced onward counted grown
   taken_stays at k tick v r fits small =
       let t : Table = accept state.settings (table_of state room) tick v in
@@ -146,7 +147,7 @@ unfolding traced onward
 opened_empty o l = open_either o l (λ v. onward (state_of (kept o) []) (traced (kept o) l v).0 ≡ state_of (kept o) []) (λ r. refl) (λ g. refl)
 
 -- a sound trace has at most `ticks` readings, so accepted has not stopped
-from_opening : (o : Opening) (l : List ℤ) (st : State) (l' : List ℤ) → opened o l ≡ (accepted st, l') → (rs : List Call) → TrueTally (begun st l') rs
+from_opening : (o : Opening) (l : List ℤ) (st : State) (l' : List ℤ) → opened o l ≡ (Ok st, l') → (rs : List Call) → TrueTally (begun st l') rs
 unfolding LeftBy onward readings
 from_opening o l st l' e rs =
     let empty : st ≡ state_of (kept o) [] = ap (λ (v : Verdict State × List ℤ). onward (state_of (kept o) []) v.0) (sym e) ∙ opened_empty o l in
@@ -173,5 +174,5 @@ always_tallied = record { any = grows; fresh = from_opening }
 
 pub calls_leave : CallsLeave
 calls_leave c x r l t e f =
-    let v : verdict r ≡ (outcome c x).0 = ap (λ (a : Answer × List ℤ). verdict a.0) e ∙ verdict_answer (outcome c x).0 in
+    let v : verdict r ≡ (outcome c x).0 = ap (λ (a : Verdict Trace × List ℤ). verdict a.0) e ∙ verdict_answer (outcome c x).0 in
     λ i. record { state = onward c.state (v i); room = (e i).1; tally = (f ∙ ap (counted c.tally c.state.used) v) i }

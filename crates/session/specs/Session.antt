@@ -1,13 +1,13 @@
 -- A session of document 01: one trace from its opening and one tally, through readings, each call getting what the last one left.
-use Rattle.std.specs.Prelude.{ℕ, ◌+◌, ◌-◌, ◌≤◌, min, ◌≡◌, true, List, [], ◌∷◌, ℤ, length}
+use Rattle.std.specs.Prelude.{ℕ, ◌+◌, ◌-◌, ◌≤◌, min, ◌≡◌, true, List, [], ◌∷◌, ℤ, length, Ok, Err}
 use Rattle.rule.specs.declared.Opening.{Opening}
 use Rattle.rule.specs.declared.State.{State}
 use Rattle.rule.specs.declared.Tally.{Tally}
-use Rattle.rule.specs.Calls.{Verdict, accepted, counted, late_outcome, next_outcome, onward, opened, refused}
+use Rattle.rule.specs.Calls.{Verdict, counted, late_outcome, next_outcome, onward, opened}
 use Rattle.rule.specs.Numbers.{tally_most}
 use Rattle.rule.specs.Room.{signed}
-use Rattle.trace.specs.declared.Answer.{Answer}
 use Rattle.trace.specs.Answers.{answered, verdict}
+use Rattle.trace.specs.declared.Trace.{Trace}
 
 -- a reading call, of any signed 32-bit number: the next of a trace in order, or one at its tick
 pub data Call : Type 0 where
@@ -39,18 +39,18 @@ after c (r ∷ rs) = after (left c (outcome c r)) rs
 
 -- such a session is what a caller has: the answer, the room and the tally that the contracts of `next` and `late` ensure make what `left` says
 abbrev pub CallsLeave : Type 0
-CallsLeave = (c : Session) (x : Call) (r : Answer) (l : List ℤ) (t : Tally) → (r, l) ≡ answered (outcome c x) → t ≡ counted c.tally c.state.used (verdict r)
+CallsLeave = (c : Session) (x : Call) (r : Verdict Trace) (l : List ℤ) (t : Tally) → (r, l) ≡ answered (outcome c x) → t ≡ counted c.tally c.state.used (verdict r)
     → record { state = onward c.state (verdict r); room = l; tally = t } ≡ left c (outcome c x)
 
 -- ---- the readings of a session, counted by their verdicts
 
 unfoldable pub accepted_one : Verdict State → ℕ
-accepted_one (refused r) = 0
-accepted_one (accepted t) = 1
+accepted_one (Err r) = 0
+accepted_one (Ok t) = 1
 
 unfoldable pub refused_one : Verdict State → ℕ
-refused_one (refused r) = 1
-refused_one (accepted t) = 0
+refused_one (Err r) = 1
+refused_one (Ok t) = 0
 
 -- so many of the readings are accepted, each call getting what the last one left
 unfoldable pub accepted_among : Session → List Call → ℕ
@@ -84,4 +84,4 @@ pub record TrueTally (c : Session) (rs : List Call) : Type 0 where
 pub record AlwaysTallied : Type 0 where
   pub any : (c : Session) (rs : List Call) → GrownTally c rs
   -- a fresh tally used with one trace from its opening, each call getting what the last one left, without a load
-  pub fresh : (o : Opening) (l : List ℤ) (st : State) (l' : List ℤ) → opened o l ≡ (accepted st, l') → (rs : List Call) → TrueTally (begun st l') rs
+  pub fresh : (o : Opening) (l : List ℤ) (st : State) (l' : List ℤ) → opened o l ≡ (Ok st, l') → (rs : List Call) → TrueTally (begun st l') rs

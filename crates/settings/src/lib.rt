@@ -1,6 +1,6 @@
 // What is asked of a trace's kind and settings, each thing once. Nothing here but `limit` and `needed` asks anything of its caller.
 
-#![tactic(auto)]
+#![tactic(auto, unfolding(rule::specs::Calls::late, rule::specs::Room::bounded, rule::specs::Room::edition_good, rule::specs::Room::gaps_good, rule::specs::Room::runs_allowed, rule::specs::Table::limit_over))]
 
 ghost use Rattle.std.specs.Prelude.{◌≡◌, ◌<◌, ◌^◌};
 ghost use Rattle.rule.specs.Calls.{late};
@@ -12,10 +12,7 @@ use rule::{Kind, MOST, Settings};
 pub fn is_late(kind: Kind) -> bool
     ensures { result ≡ late kind }
 {
-    match kind {
-        Kind::InOrder => false,
-        Kind::Late => true,
-    }
+    matches!(kind, Kind::Late)
 }
 
 // 1 to the top.
@@ -55,8 +52,7 @@ pub fn limit(s: Settings, runs: usize) -> usize
     requires { limit s runs < 2 ^ 32 }
     ensures { result ≡ limit s runs }
 {
-    let kind = s.kind;
-    match kind {
+    match s.kind {
         Kind::InOrder => s.base,
         Kind::Late => s.base + runs,
     }

@@ -2,7 +2,7 @@
 
 #![tactic(auto)]
 
-ghost use Rattle.std.specs.Prelude.{◌≡◌, ◌+◌, ◌≤◌, ◌<◌, ◌^◌, min, length};
+ghost use Rattle.std.specs.Prelude.{◌+◌, ◌≤◌, ◌<◌, ◌^◌, length};
 ghost use Rattle.rule.specs.Room.{slots};
 ghost use Rattle.output.specs.Output.{Put};
 ghost use Rattle.drawing.specs.Picture.{front, picture, scale};
@@ -14,30 +14,22 @@ use drawing::View;
 use scale::{down, view};
 use wording::put_text;
 
-// 100, or all where there are fewer.
-fn first_line(n: usize) -> usize
-    ensures { result ≡ min 100 n }
-{
-    if n < 100 { n } else { 100 }
-}
-
 // The caption in two lines.
 fn put_front(out: &mut [u8], at: usize, caption: &[u8]) -> usize
     requires { at + length (front caption.now) < 2 ^ 64 }
     ensures { Put out.old at (front caption.now) result out.new }
 {
-    let none = [0i64; 1];
-    let cut = first_line(caption.len());
+    let (first, second) = caption.split_at(caption.len().min(100));
     let a = put_text(
         out,
         at,
         b"<svg xmlns=\"http://www.w3.org/2000/svg\" viewBox=\"0 0 10000 5000\" font-family=\"monospace\" font-size=\"160\" direction=\"ltr\">\n<rect width=\"10000\" height=\"5000\" fill=\"white\"/>\n<text x=\"100\" y=\"4660\" xml:space=\"preserve\"><tspan x=\"100\">",
-        &none,
+        &[],
     );
-    let b = put_caption(out, a, &caption[0..cut]);
-    let c = put_text(out, b, b"</tspan><tspan x=\"100\" dy=\"220\">", &none);
-    let d = put_caption(out, c, &caption[cut..]);
-    put_text(out, d, b"</tspan></text>\n", &none)
+    let b = put_caption(out, a, first);
+    let c = put_text(out, b, b"</tspan><tspan x=\"100\" dy=\"220\">", &[]);
+    let d = put_caption(out, c, second);
+    put_text(out, d, b"</tspan></text>\n", &[])
 }
 
 // The scale, where there are buckets.
@@ -46,12 +38,11 @@ fn put_scale(out: &mut [u8], at: usize, v: View, used: usize) -> usize
     ensures { Put out.old at (scale used v) result out.new }
 {
     if used == 0 {
-        let none = [0i64; 1];
         return put_text(
             out,
             at,
             b"<text x=\"100\" y=\"2160\">no readings</text>\n",
-            &none,
+            &[],
         );
     }
     let top = down(v, v.top);
@@ -79,7 +70,6 @@ pub fn put_picture(out: &mut [u8], at: usize, room: &[i64], used: usize, caption
     requires { Drawable room.now used × (at + length (picture (slots room.now 0 used) caption.now) < 2 ^ 64) }
     ensures { Put out.old at (picture (slots room.now 0 used) caption.now) result out.new }
 {
-    let none = [0i64; 1];
     let v = view(room, used);
     let a = put_front(out, at, caption);
     let b = put_scale(out, a, v, used);
@@ -87,8 +77,8 @@ pub fn put_picture(out: &mut [u8], at: usize, room: &[i64], used: usize, caption
         out,
         b,
         b"<g fill=\"none\" stroke=\"black\" stroke-width=\"30\" stroke-linecap=\"square\" stroke-miterlimit=\"1.5\">\n",
-        &none,
+        &[],
     );
     let d = put_lines(out, c, v, room, used);
-    put_text(out, d, b"</g>\n</svg>\n", &none)
+    put_text(out, d, b"</g>\n</svg>\n", &[])
 }

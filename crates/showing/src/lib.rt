@@ -11,7 +11,7 @@ ghost use Rattle.listing.specs.Feeding.{Listable, Showable};
 
 use listing::Feeding;
 use printing::{put_refused, put_row, put_total};
-use trace::{Answer, Trace};
+use trace::Trace;
 use worst::greatest_error;
 
 // One line a bucket of the first slots.
@@ -20,10 +20,8 @@ fn rows(room: &[i64], used: usize, out: &mut [u8]) -> usize
     ensures { Printed out.old 0 (rows (slots room.now 0 used)) result out.new }
 {
     let mut at = 0;
-    let mut done = 0;
-    while done < used {
+    for done in 0..used {
         at = put_row(&mut *out, at, slots::read(room, done));
-        done += 1;
     }
     at
 }
@@ -51,7 +49,7 @@ pub fn show(f: Feeding, room: &[i64], out: &mut [u8]) -> usize
 {
     let last = f.last;
     match last {
-        Answer::Accepted(t) => listed(t, room, out),
-        Answer::Refused(r) => put_refused(out, 0, f.lines, refusal::number(r)),
+        Ok(t) => listed(t, room, out),
+        Err(r) => put_refused(out, 0, f.lines, refusal::number(r)),
     }
 }

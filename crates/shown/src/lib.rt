@@ -7,18 +7,20 @@ ghost use Rattle.plain.specs.Plain.{erring, pointing, showing};
 
 use over::Sought;
 use plain::{Hit, Shown, WorstError};
-use rule::{Found, Measured};
+use rule::{Found, Refusal};
 
-pub fn showing(f: Found) -> Shown
+pub fn showing(f: Result<Found, Refusal>) -> Shown
     ensures { result ≡ showing f }
 {
     match f {
-        Found::Level {
-            level,
-            error,
-            least,
-            largest,
-        } => Shown {
+        Ok(
+            Found {
+                level,
+                error,
+                least,
+                largest,
+            },
+        ) => Shown {
             refusal: 0,
             place: 0,
             level,
@@ -26,7 +28,7 @@ pub fn showing(f: Found) -> Shown
             least,
             largest,
         },
-        Found::Refused(r) => Shown {
+        Err(r) => Shown {
             refusal: refusal::number(r),
             place: refusal::place(r),
             level: 0,
@@ -37,25 +39,25 @@ pub fn showing(f: Found) -> Shown
     }
 }
 
-pub fn pointing(s: Sought) -> Hit
+pub fn pointing(s: Result<Option<Sought>, Refusal>) -> Hit
     ensures { result ≡ pointing s }
 {
     match s {
-        Sought::At { index, start } => Hit {
+        Ok(Some(Sought { index, start })) => Hit {
             refusal: 0,
             place: 0,
             found: 1,
             index,
             start,
         },
-        Sought::Nowhere => Hit {
+        Ok(None) => Hit {
             refusal: 0,
             place: 0,
             found: 0,
             index: 0,
             start: 0,
         },
-        Sought::Refused(r) => Hit {
+        Err(r) => Hit {
             refusal: refusal::number(r),
             place: refusal::place(r),
             found: 0,
@@ -65,16 +67,16 @@ pub fn pointing(s: Sought) -> Hit
     }
 }
 
-pub fn erring(m: Measured) -> WorstError
+pub fn erring(m: Result<u32, Refusal>) -> WorstError
     ensures { result ≡ erring m }
 {
     match m {
-        Measured::Error(greatest) => WorstError {
+        Ok(greatest) => WorstError {
             refusal: 0,
             place: 0,
             error: greatest,
         },
-        Measured::Refused(r) => WorstError {
+        Err(r) => WorstError {
             refusal: refusal::number(r),
             place: refusal::place(r),
             error: 0,

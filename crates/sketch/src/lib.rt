@@ -11,13 +11,12 @@ ghost use Rattle.drawing.specs.Promise.{picture_most};
 ghost use Rattle.sketching.specs.Heading.{Drawable};
 ghost use Rattle.sketching.specs.Sketching.{sketched};
 
-use drawing::Drawn;
 use legible::caption_good;
 use listing::Feeding;
 use picture::picture;
 use printing::put_refused;
 use rule::Refusal;
-use trace::{Answer, Trace};
+use trace::Trace;
 
 // The picture, which no output of so many bytes is too short for.
 fn drawn(t: Trace, room: &[i64], caption: &[u8], out: &mut [u8]) -> usize
@@ -25,7 +24,7 @@ fn drawn(t: Trace, room: &[i64], caption: &[u8], out: &mut [u8]) -> usize
     ensures { Printed out.old 0 (picture (table_of t.state room.now) caption.now) result out.new }
 {
     let d = picture(t, room, caption, &mut *out);
-    let Drawn::Bytes(length) = d else {
+    let Ok(length) = d else {
         return 0;
     };
     length
@@ -41,7 +40,7 @@ pub fn sketch(f: Feeding, room: &[i64], caption: &[u8], out: &mut [u8]) -> usize
     }
     let last = f.last;
     match last {
-        Answer::Accepted(t) => drawn(t, room, caption, out),
-        Answer::Refused(r) => put_refused(out, 0, f.lines, refusal::number(r)),
+        Ok(t) => drawn(t, room, caption, out),
+        Err(r) => put_refused(out, 0, f.lines, refusal::number(r)),
     }
 }

@@ -1,10 +1,10 @@
 -- A program that reads a piece gets on while the caption is good and no line is refused, and not without end.
 use Prim.Native.Nat.{ℕ, zero, suc, ◌+◌, ◌-◌, ◌≤◌, ◌<◌}
-use mathlib.Core.Path.{◌≡◌, sym, ap, ◌∙◌, subst}
+use mathlib.Core.Path.{◌≡◌, refl, sym, ap, ◌∙◌, subst}
 use mathlib.Core.Bool.{Bool, true, false, cond, ◌&&◌, not}
 use mathlib.Core.List.{List, [], ◌∷◌, ◌++◌}
 use native.Mathlib.Omega.{arith}
-use borrow.Author.Tests.{leb-true, leb-false, not-true}
+use borrow.Author.Tests.{leb-true, leb-false}
 use lib.Dec.{leb}
 use lib.IntN.{ℤ, pos}
 use lib.ListN.{drop, length, replicate, take, length-append}
@@ -12,7 +12,7 @@ use lib.Seq.{length-take-le, take-nil}
 use Rattle.rule.specs.Room.{zeros}
 use Rattle.rule.specs.Table.{limit_over}
 use Rattle.rule.proofs.Whole.{by_test}
-use Rattle.rule.proofs.Ruling.{and_left, and_right}
+use Rattle.rule.proofs.Ruling.{and_left}
 use Rattle.listing.specs.declared.Feeding.{Feeding}
 use Rattle.listing.specs.Feeding.{Reader, fed, fresh, has_ended, rest_fed}
 use Rattle.listing.specs.Lists.{start}
@@ -144,16 +144,22 @@ module _ {h h' : Heading} {c c' : List ℕ} {f f' : Feeding} {l l' : List ℤ} {
   reached_on : On
   reached_on = by_test h.ended on_behind on_with
 
--- the run goes on only where the caption is good and no line is refused
-pub gets_less : (r good ended : Bool) (m g h : ℕ) → r ≡ good && not ended → (good ≡ true → ended ≡ false → (g < h) × (h ≤ m)) → cond r (suc (m - h)) 0 < suc (m - g)
-gets_less r good ended m g h e on =
-    by_test r
-    (λ d.
-    let p = on (and_left good (not ended) (sym e ∙ d)) (not-true ended (and_right good (not ended) (sym e ∙ d))) in
-    rw d (omega (arith, p.0, p.1)))
-    (λ d. rw d (omega arith))
+-- ---- what is left
 
--- ---- a piece as the program has it: of what it reads into the bytes from 0 to n, and of these the ones from a place on
+-- the run goes on only where the caption is good and no line is refused
+abbrev pub goes_on : Heading → List ℕ → Feeding → Bool
+goes_on h c f = caption_good (take h.filled c) && not (has_ended f.last)
+
+-- how far it may yet get
+abbrev pub left : Heading → List ℕ → Feeding → ℕ
+left h c f = cond (goes_on h c f) (suc (most_gone - gone h f)) 0
+
+less_left : (good ended : Bool) (m g h : ℕ) → (good ≡ true → ended ≡ false → (g < h) × (h ≤ m)) → cond (good && not ended) (suc (m - h)) 0 < suc (m - g)
+less_left true true m g h on = omega arith
+less_left true false m g h on = let p = on refl refl in omega (arith, p.0, p.1)
+less_left false ended m g h on = omega arith
+
+-- ---- a piece as the program has it: of what it reads into the first n bytes, and of these the ones from a place on
 
 behind_part : (t n : ℕ) (l : List ℕ) → take (n - t) (drop t l) ≡ drop t (take n l)
 behind_part zero n l = ap (λ (k : ℕ). take k l) (let all : n - 0 ≡ n = omega arith in all)
@@ -161,16 +167,16 @@ behind_part (suc t) n [] = take-nil (n - suc t) ∙ sym (ap (drop (suc t)) (take
 behind_part (suc t) zero (b ∷ l) = ap (λ (k : ℕ). take k (drop t l)) (let none : 0 - suc t ≡ 0 = omega arith in none)
 behind_part (suc t) (suc n) (b ∷ l) = ap (λ (k : ℕ). take k (drop t l)) (let less : suc n - suc t ≡ n - t = omega arith in less) ∙ behind_part t n l
 
-from_0 : (n : ℕ) → n ≡ n - 0
-from_0 n = omega arith
-
-module _ {h h' : Heading} {c c' : List ℕ} {f f' : Feeding} {l l' : List ℤ} {line line' : List ℕ} (n : ℕ) (piece : List ℕ) (x : Reached h c f l line) (head : ◌≡◌ {A = Heading × List ℕ} (h', c') (headed h c (take (n - 0) piece)))
+module _ {h h' : Heading} {c c' : List ℕ} {f f' : Feeding} {l l' : List ℤ} {line line' : List ℕ} (n : ℕ) (piece : List ℕ) (x : Reached h c f l line) (head : ◌≡◌ {A = Heading × List ℕ} (h', c') (headed h c (take n piece)))
     (goes : ◌≡◌ {A = Reader} (f', (l', line')) (fed (f, (l, line)) (take (n - h'.taken) (drop h'.taken piece)))) where
-  goes_behind : ◌≡◌ {A = Reader} (f', (l', line')) (fed (f, (l, line)) (drop h'.taken (take (n - 0) piece)))
-  goes_behind = goes ∙ ap (fed (f, (l, line))) (behind_part h'.taken n piece ∙ ap (λ (k : ℕ). drop h'.taken (take k piece)) (from_0 n))
+  goes_behind : ◌≡◌ {A = Reader} (f', (l', line')) (fed (f, (l, line)) (drop h'.taken (take n piece)))
+  goes_behind = goes ∙ ap (fed (f, (l, line))) (behind_part h'.taken n piece)
 
   pub part_reached : Reached h' c' f' l' line'
-  part_reached = reached_piece (take (n - 0) piece) x head goes_behind
+  part_reached = reached_piece (take n piece) x head goes_behind
 
-  pub part_on : 1 ≤ length (take (n - 0) piece) → caption_good (take (h'.filled - 0) c') ≡ true → has_ended f'.last ≡ false → (gone h f < gone h' f') × (gone h' f' ≤ most_gone)
-  part_on some good going = reached_on (take (n - 0) piece) x head goes_behind some (ap (λ (k : ℕ). caption_good (take k c')) (from_0 h'.filled) ∙ good) going
+  pub part_on : 1 ≤ length (take n piece) → caption_good (take h'.filled c') ≡ true → has_ended f'.last ≡ false → (gone h f < gone h' f') × (gone h' f' ≤ most_gone)
+  part_on = reached_on (take n piece) x head goes_behind
+
+  pub part_less : 1 ≤ length (take n piece) → goes_on h c f ≡ true → left h' c' f' < left h c f
+  part_less some on = rw on (less_left (caption_good (take h'.filled c')) (has_ended f'.last) most_gone (gone h f) (gone h' f') (part_on some))

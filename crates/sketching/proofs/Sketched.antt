@@ -11,8 +11,6 @@ use lib.ListN.{drop, length, replicate, take, length-replicate}
 use lib.Seq.{length-take-le}
 use Rattle.rule.proofs.Whole.{by_test}
 use Rattle.rule.proofs.Ruling.{and_left, and_right}
-use Rattle.trace.specs.declared.Answer.{Answer}
-use Rattle.trace.specs.declared.Answer.TheVariants.{Accepted, Refused}
 use Rattle.notation.specs.Signs.{line_feed}
 use Rattle.listing.specs.Listing.{output, shown}
 use Rattle.listing.specs.Feeding.{Reader, Showable, fed, output_room}
@@ -25,6 +23,9 @@ use Rattle.sketching.specs.Sketching.{caption_in, drawn, drawn_of, sketched, tra
 use Rattle.sketching.specs.Heading.{Drawable, Sketcher, caption_room, headed, headed_from, nothing, piece_fed, pieces_fed, unheaded, written_by}
 use Rattle.sketching.specs.Sketches.{Sketches, after}
 use Rattle.sketching.proofs.Caption.{Keeps, broken, ended_broken, ended_caption, ended_trace, going_broken, going_caption, going_trace, headed_to, keeps_none, no_trace, whole_caption}
+use Rattle.trace.specs.declared.Trace.{Trace}
+use Rattle.std.specs.Prelude.{Ok, Err}
+use Rattle.rule.specs.Calls.{Verdict}
 
 -- the bytes that came so far, seen by the reader of the caption and by that of the lines
 pub record Stands (h : Heading) (c : List ℕ) (r : Reader) (input : List ℕ) : Type 0 where
@@ -74,7 +75,7 @@ long_bad : (c : List ℕ) → 200 < length c → caption_good c ≡ false
 unfolding caption_good
 long_bad c h = rw (lt-leb (length c) 200 h)
 
-kept_alike : {k : ℕ} {c typed : List ℕ} → Keeps k c typed → (a : Answer) (n : ℕ) (l : List ℤ) → sketched a n l (take k c) ≡ sketched a n l typed
+kept_alike : {k : ℕ} {c typed : List ℕ} → Keeps k c typed → (a : Verdict Trace) (n : ℕ) (l : List ℤ) → sketched a n l (take k c) ≡ sketched a n l typed
 unfolding sketched
 kept_alike {k} {c} {typed} x a n l =
     by_test (leb (length typed) caption_room) (λ e. ap (sketched a n l) (x.short (leb-true (length typed) caption_room e)).1)
@@ -88,13 +89,13 @@ pub stands_written : {h : Heading} {c : List ℕ} {r : Reader} (input : List ℕ
 unfolding drawn_of
 stands_written {h} {c} {r} input x =
     ap (λ (z : Reader). written_by ((h, c), z)) x.reads
-    ∙ ap (λ (q : Answer × (ℕ × List ℤ)). sketched q.0 q.1.0 q.1.1 (take h.filled c)) (listed_whole (trace_in input))
+    ∙ ap (λ (q : Verdict Trace × (ℕ × List ℤ)). sketched q.0 q.1.0 q.1.1 (take h.filled c)) (listed_whole (trace_in input))
     ∙ kept_alike x.keeps _ _ _
 
-showable_drawable : (a : Answer) (l : List ℤ) (out : List ℕ) → Showable a l out → Drawable a l
+showable_drawable : (a : Verdict Trace) (l : List ℤ) (out : List ℕ) → Showable a l out → Drawable a l
 unfolding Showable Drawable
-showable_drawable (Refused r) l out h = tt
-showable_drawable (Accepted t) l out h = h.whole
+showable_drawable (Err r) l out h = tt
+showable_drawable (Ok t) l out h = h.whole
 
 whole_drawable : (input out : List ℕ) → length out ≡ output_room → let e = at_end (fed start input) in Drawable e.0.last e.1
 whole_drawable input out h = showable_drawable _ _ out (whole_showable input out h)

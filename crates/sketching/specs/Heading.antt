@@ -1,13 +1,13 @@
 -- The same piece by piece, as an input arrives: the caption's bytes go to a lent place, those behind its line feed to the reader of the listing.
-use Rattle.std.specs.Prelude.{ℕ, ◌+◌, ◌≡◌, true, false, cond, List, [], ◌∷◌, eqb, ltb, ℤ, drop, length, replicate, set, take}
+use Rattle.std.specs.Prelude.{ℕ, ◌+◌, ◌≡◌, true, false, cond, List, [], ◌∷◌, eqb, ltb, ℤ, drop, length, replicate, set, take, Ok, Err}
 use Rattle.rule.specs.Room.{sound}
-use Rattle.trace.specs.declared.Answer.{Answer}
-use Rattle.trace.specs.declared.Answer.TheVariants.{Accepted, Refused}
 use Rattle.notation.specs.Signs.{line_feed}
 use Rattle.listing.specs.Feeding.{Reader, fed}
 use Rattle.listing.specs.Lists.{at_end, start}
 use Rattle.sketching.specs.declared.Heading.{Heading}
 use Rattle.sketching.specs.Sketching.{sketched}
+use Rattle.trace.specs.declared.Trace.{Trace}
+use Rattle.rule.specs.Calls.{Verdict}
 
 -- places for one byte more than a good caption has: where all are filled, the caption is too long
 abbrev pub caption_room : ℕ
@@ -53,6 +53,6 @@ abbrev pub written_by : Sketcher → List ℕ
 written_by x = let e = at_end x.1 in sketched e.0.last e.0.lines e.1 (take x.0.0.filled x.0.1)
 
 -- what was read can be drawn: the trace is sound, unless a line was refused
-unfoldable pub Drawable : Answer → List ℤ → Type 0
-Drawable (Refused r) l = Unit {0}
-Drawable (Accepted t) l = sound t.state l ≡ true
+unfoldable pub Drawable : Verdict Trace → List ℤ → Type 0
+Drawable (Err r) l = Unit {0}
+Drawable (Ok t) l = sound t.state l ≡ true

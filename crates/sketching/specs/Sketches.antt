@@ -1,9 +1,8 @@
 -- What the program promises of any input, however it is cut.
-use Rattle.std.specs.Prelude.{ℕ, ◌≡◌, true, false}
+use Rattle.std.specs.Prelude.{ℕ, ◌≡◌, true, false, Ok, Err}
 use mathlib.Core.List.{List, [], ◌∷◌, ◌++◌, Memᴰ}
 use Rattle.rule.specs.declared.Refusal.{Refusal}
 use Rattle.rule.specs.Room.{table_of, zeros}
-use Rattle.trace.specs.declared.Answer.TheVariants.{Accepted, Refused}
 use Rattle.trace.specs.declared.Trace.{Trace}
 use Rattle.notation.specs.Signs.{line_feed}
 use Rattle.notation.specs.Printing.{refused}
@@ -20,8 +19,8 @@ after i = read_all (begun default_steps (zeros room_size)) (lines i)
 
 pub record Sketches : Type 0 where
   -- a good caption before the lines i: the picture of the buckets that the listing of i has, or what the listing of i is where it refuses a line
-  pub draws : (c i : List ℕ) (t : Trace) → caption_good c ≡ true → (after i).last ≡ Accepted t → drawn_of (c ++ (line_feed ∷ i)) ≡ picture (table_of t.state (after i).room) c
-  pub refuses_alike : (c i : List ℕ) (r : Refusal) → caption_good c ≡ true → (after i).last ≡ Refused r → drawn_of (c ++ (line_feed ∷ i)) ≡ output i
+  pub draws : (c i : List ℕ) (t : Trace) → caption_good c ≡ true → (after i).last ≡ Ok t → drawn_of (c ++ (line_feed ∷ i)) ≡ picture (table_of t.state (after i).room) c
+  pub refuses_alike : (c i : List ℕ) (r : Refusal) → caption_good c ≡ true → (after i).last ≡ Err r → drawn_of (c ++ (line_feed ∷ i)) ≡ output i
   -- any other caption, whatever follows
   pub no_caption : (c i : List ℕ) → caption_good c ≡ false → (Memᴰ line_feed c → ⊥) → drawn_of (c ++ (line_feed ∷ i)) ≡ refused 0 15
   -- an input without a line feed is a caption with nothing behind it

@@ -1,15 +1,15 @@
 -- The picture program as one definition: the bytes of the input in, the bytes of the output out. The first line is the caption, what follows are the lines of a trace as the listing has them.
-use Rattle.std.specs.Prelude.{ℕ, cond, List, [], ◌∷◌, eqb, ℤ}
+use Rattle.std.specs.Prelude.{ℕ, cond, List, [], ◌∷◌, eqb, ℤ, Ok, Err}
 use Rattle.rule.specs.declared.Refusal.{Refusal}
 use Rattle.rule.specs.Answers.{number}
 use Rattle.rule.specs.Room.{table_of, zeros}
-use Rattle.trace.specs.declared.Answer.{Answer}
-use Rattle.trace.specs.declared.Answer.TheVariants.{Accepted, Refused}
 use Rattle.notation.specs.Signs.{line_feed}
 use Rattle.notation.specs.Printing.{refused}
 use Rattle.listing.specs.Listing.{begun, default_steps, lines, read_all, room_size}
 use Rattle.captions.specs.Caption.{caption_good}
 use Rattle.drawing.specs.Picture.{picture}
+use Rattle.trace.specs.declared.Trace.{Trace}
+use Rattle.rule.specs.Calls.{Verdict}
 
 -- ---- the input
 
@@ -26,12 +26,12 @@ trace_in (b ∷ l) = cond (eqb b line_feed) l (trace_in l)
 -- ---- the output
 
 -- the refused line, from 1 behind the caption, with the refusal's number; else the picture of the buckets
-unfoldable pub drawn : Answer → ℕ → List ℤ → List ℕ → List ℕ
-drawn (Refused r) count l c = refused count (number r)
-drawn (Accepted t) count l c = picture (table_of t.state l) c
+unfoldable pub drawn : Verdict Trace → ℕ → List ℤ → List ℕ → List ℕ
+drawn (Err r) count l c = refused count (number r)
+drawn (Ok t) count l c = picture (table_of t.state l) c
 
 -- a caption that is not good is refused as line 0, whatever the lines are
-unfoldable pub sketched : Answer → ℕ → List ℤ → List ℕ → List ℕ
+unfoldable pub sketched : Verdict Trace → ℕ → List ℤ → List ℕ → List ℕ
 sketched a count l c = cond (caption_good c) (drawn a count l c) (refused 0 (number Refusal.Caption))
 
 unfoldable pub drawn_of : List ℕ → List ℕ

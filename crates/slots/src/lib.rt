@@ -1,7 +1,8 @@
 // The lent numbers, four to a slot: a slot read and a slot written.
+// They are lent as plain numbers by callers in any language: so they are read and written by index.
 // Each function asks for a slot that is there, `read` for one that holds a bucket, as it is in a sound trace.
 
-#![tactic(auto)]
+#![tactic(auto, using(std::proofs::lemmas::Int::ints), unfolding(rule::specs::Room::slot_ranged, rule::specs::Room::within))]
 
 ghost use Rattle.std.specs.Prelude.{◌≡◌, true, ◌*◌, ◌≤◌, suc, length};
 ghost use Rattle.rule.specs.Numbers.{slot_width};
@@ -30,12 +31,8 @@ pub fn write(room: &mut [i64], at: usize, b: Bucket)
     ensures { room.new ≡ put room.old at b }
 {
     let from = SLOT * at;
-    let start = b.start as i64;
-    let count = b.count as i64;
-    let least = b.least as i64;
-    let largest = b.largest as i64;
-    room[from] = start;
-    room[from + 1] = count;
-    room[from + 2] = least;
-    room[from + 3] = largest;
+    room[from] = b.start as i64;
+    room[from + 1] = b.count as i64;
+    room[from + 2] = b.least as i64;
+    room[from + 3] = b.largest as i64;
 }

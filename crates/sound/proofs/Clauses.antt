@@ -1,16 +1,14 @@
 -- Soundness as the code tests it, one list in its order, and how many slots a sound state can use.
-use Prim.Native.Nat.{ℕ, ◌≤◌}
-use mathlib.Core.Path.{◌≡◌, sym, ◌∙◌}
-use mathlib.Core.Bool.{Bool, true, false, and_assoc}
+use Prim.Native.Nat.{◌≤◌}
+use mathlib.Core.Path.{◌≡◌}
+use mathlib.Core.Bool.{Bool, true, and_assoc}
 use mathlib.Core.List.{List, [], ◌∷◌}
 use native.Mathlib.Omega.{arith}
 use lib.Dec.{leb}
 use lib.IntN.{ℤ}
-use lib.ListN.{get_or}
 use Rattle.rule.specs.declared.State.{State}
 use Rattle.rule.specs.Room.{all_of, base_good, clauses, edition_good, gaps_good, rest_zero, roomy, runs_allowed, sound}
 use Rattle.rule.specs.Table.{limit}
-use Rattle.passes.proofs.Tests.{fails}
 use Rattle.passes.proofs.Scanning.{scanned}
 use Rattle.rooms.proofs.Bounds.{limit_gaps, most_allowed, needed_small}
 
@@ -29,9 +27,6 @@ tests s l =
 pub sound_tests : (s : State) (l : List ℤ) → sound s l ≡ all_of (tests s l)
 unfolding sound clauses all_of
 sound_tests s l = simp and_assoc
-
-pub unsound : (s : State) (l : List ℤ) (i : ℕ) → get_or (tests s l) i true ≡ false → false ≡ sound s l
-unsound s l i e = sym (sound_tests s l ∙ fails (tests s l) i e)
 
 -- ---- limits
 

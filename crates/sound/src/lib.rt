@@ -1,6 +1,6 @@
 // Whether state and room are sound, for any state fields and any numbers.
 
-#![tactic(auto)]
+#![tactic(auto, using(crate::proofs::Clauses::limits))]
 
 ghost use Rattle.std.specs.Prelude.{◌≡◌};
 ghost use Rattle.rule.specs.Room.{sound};
@@ -15,27 +15,12 @@ pub fn sound(s: State, room: &[i64]) -> bool
 {
     let settings = s.settings;
     let kind = settings.kind;
-    if !edition_good(settings.edition) {
-        return false;
-    }
-    if !bounded(settings.base, MOST_BASE) {
-        return false;
-    }
-    if !gaps_good(kind, settings.gaps) {
-        return false;
-    }
-    if !runs_allowed(kind, settings.gaps, s.runs) {
-        return false;
-    }
-    let slots = needed(settings);
-    if room.len() < SLOT * slots {
-        return false;
-    }
-    if limit(settings, s.runs) < s.used {
-        return false;
-    }
-    if !scan(kind, s.used, s.runs, s.readings, room) {
-        return false;
-    }
-    all_zero(room, SLOT * s.used, SLOT * slots)
+    edition_good(settings.edition)
+        && bounded(settings.base, MOST_BASE)
+        && gaps_good(kind, settings.gaps)
+        && runs_allowed(kind, settings.gaps, s.runs)
+        && SLOT * needed(settings) <= room.len()
+        && s.used <= limit(settings, s.runs)
+        && scan(kind, s.used, s.runs, s.readings, room)
+        && all_zero(room, SLOT * s.used, SLOT * needed(settings))
 }

@@ -14,9 +14,8 @@ use Rattle.rule.specs.declared.Refusal.{Refusal}
 use Rattle.rule.specs.declared.Opening.{Opening}
 use Rattle.rule.specs.declared.Settings.{Settings}
 use Rattle.rule.specs.declared.State.{State}
-use Rattle.rule.specs.declared.Written.{Written}
 use Rattle.rule.specs.Bytes.{record_at, records, records_of, saved}
-use Rattle.rule.specs.Calls.{Verdict, checked, refused, accepted, file_verdict, kept, loaded, save_outcome, state_of, traced, write_verdict, wrote}
+use Rattle.rule.specs.Calls.{Verdict, checked, file_verdict, kept, loaded, save_outcome, state_of, traced, write_verdict, wrote}
 use Rattle.rule.specs.Numbers.{record_width, slot_width}
 use Rattle.rule.specs.Room.{flat, laid, runs_allowed, slot, slots, sound, table_of, zeros}
 use Rattle.rule.specs.Rules.{ruled}
@@ -31,6 +30,7 @@ use Rattle.rooms.proofs.Bounds.{limit_gaps}
 use Rattle.rooms.proofs.Laying.{flat_append, length_flat, length_slots, slots_split}
 use Rattle.rooms.proofs.Granting.{Granted, admits, past_admission}
 use Rattle.rule.proofs.Checks.{Unrefused, past_checks}
+use Rattle.std.specs.Prelude.{Ok, Err}
 
 -- ---- saved slot by slot
 
@@ -52,7 +52,7 @@ saved_next l out i =
     ∙ rw (slots_last l i, drop-drop record_width (record_width * i) out, e)
 
 -- what a save of a sound trace leaves, where the output is long enough
-pub save_writes : (s : State) (l : List ℤ) (out : List ℕ) → sound s l ≡ true → record_width * s.used ≤ length out → save_outcome s l out ≡ (Written.Buckets s.used, saved_up_to l out s.used)
+pub save_writes : (s : State) (l : List ℤ) (out : List ℕ) → sound s l ≡ true → record_width * s.used ≤ length out → save_outcome s l out ≡ (Ok s.used, saved_up_to l out s.used)
 unfolding write_verdict checked wrote
 save_writes s l out h k = rw (h, le-ltb (length out) (record_width * s.used) k, length_saved (table_of s l), length_slots l 0 s.used)
 
@@ -103,7 +103,7 @@ pub record Loads (s : Settings) (file : List ℕ) : Type 0 where
   pub few : length (records_of file) ≤ limit s (runs (records_of file))
 
 module _ (s : Settings) (file : List ℕ) where
-  pub file_loads : Loads s file → file_verdict s file ≡ accepted (records_of file)
+  pub file_loads : Loads s file → file_verdict s file ≡ Ok (records_of file)
   unfolding file_verdict checked ruled
   file_loads h =
       rw (
@@ -114,7 +114,7 @@ module _ (s : Settings) (file : List ℕ) where
       )
 
   -- what holds of every refusal, and of the records of a file that loads, holds of the file's verdict
-  pub file_either : (P : Verdict Table → Type 0) → ((r : Refusal) → P (refused r)) → (Loads s file → P (accepted (records_of file))) → P (file_verdict s file)
+  pub file_either : (P : Verdict Table → Type 0) → ((r : Refusal) → P (Err r)) → (Loads s file → P (Ok (records_of file))) → P (file_verdict s file)
   unfolding file_verdict ruled Unrefused
   file_either P refuses loads =
       let t = records_of file in
@@ -128,17 +128,17 @@ loads_needed s file h = omega (arith, h.few, limit_gaps s.kind s.base s.gaps (ru
 -- ---- a load that is accepted
 
 module _ (o : Opening) (file : List ℕ) (l : List ℤ) where
-  pub load_accepts : (t : State) → (loaded o file l).0 ≡ accepted t → Granted (kept o) l × Loads (kept o) file
+  pub load_accepts : (t : State) → (loaded o file l).0 ≡ Ok t → Granted (kept o) l × Loads (kept o) file
   unfolding traced
   load_accepts t =
       past_admission o l (file_verdict (kept o) file) P refuses (λ g. file_either (kept o) file P refuses (λ h e. (g, h)))
     where
       P : Verdict Table → Type 0
-      P v = (traced (kept o) l v).0 ≡ accepted t → Granted (kept o) l × Loads (kept o) file
+      P v = (traced (kept o) l v).0 ≡ Ok t → Granted (kept o) l × Loads (kept o) file
 
-      refuses : (r : Refusal) → P (refused r)
+      refuses : (r : Refusal) → P (Err r)
       refuses r e = absurd (let z : ◌≡◌ {A = ℕ} 0 1 = cc in omega arith)
 
-  pub load_leaves : Granted (kept o) l → Loads (kept o) file → loaded o file l ≡ (accepted (state_of (kept o) (records_of file)), laid (needed (kept o)) (records_of file) l)
+  pub load_leaves : Granted (kept o) l → Loads (kept o) file → loaded o file l ≡ (Ok (state_of (kept o) (records_of file)), laid (needed (kept o)) (records_of file) l)
   unfolding traced
   load_leaves g h = rw (admits o l g (file_verdict (kept o) file), file_loads (kept o) file h)

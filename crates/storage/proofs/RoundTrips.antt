@@ -10,9 +10,8 @@ use lib.Seq.{take_at}
 use Rattle.rule.specs.declared.Opening.{Opening}
 use Rattle.rule.specs.declared.Settings.{Settings}
 use Rattle.rule.specs.declared.State.{State}
-use Rattle.rule.specs.declared.Written.{Written}
 use Rattle.rule.specs.Bytes.{records, records_of, saved}
-use Rattle.rule.specs.Calls.{Verdict, accepted, admitted, file_verdict, kept, loaded, opened, save_outcome, state_of, traced}
+use Rattle.rule.specs.Calls.{Verdict, admitted, file_verdict, kept, loaded, opened, save_outcome, state_of, traced}
 use Rattle.rule.specs.Numbers.{record_width, slot_width}
 use Rattle.rule.specs.Room.{flat, laid, rest_zero, sound, table_of, zeros}
 use Rattle.rule.specs.Table.{Table, needed, readings, runs}
@@ -26,6 +25,7 @@ use Rattle.storage.specs.Bytes.{AllBytes}
 use Rattle.rooms.proofs.Leaving.{none_allowed}
 use Rattle.storage.proofs.Filing.{Loads, file_loads, load_accepts, load_leaves, save_writes}
 use Rattle.rooms.proofs.Granting.{Granted}
+use Rattle.std.specs.Prelude.{Ok}
 
 -- ---- saved, then loaded
 
@@ -65,14 +65,14 @@ module _ (s : State) (l : List ℤ) (whole : sound s l ≡ true) where
       }
 
   module _ (o : Opening) (names : kept o ≡ s.settings) (m : List ℤ) (long : slot_width * needed s.settings ≤ length m) where
-    again : loaded o (saved (table_of s l)) m ≡ (accepted s, laid (needed s.settings) (table_of s l) m)
+    again : loaded o (saved (table_of s l)) m ≡ (Ok s, laid (needed s.settings) (table_of s l) m)
     again =
         let file : List ℕ = saved (table_of s l) in
         let g : Granted s.settings m = record { edition = facts.good_edition; base = facts.good_base; gaps = facts.good_gaps; long = long } in
         load_leaves o file m (subst (λ (k : Settings). Granted k m) (sym names) g) (subst (λ (k : Settings). Loads k file) (sym names) loads)
-        ∙ ap (λ (k : Settings). (accepted (state_of k (records_of file)), laid (needed k) (records_of file) m)) names
-        ∙ ap (λ (t : Table). (accepted (state_of s.settings t), laid (needed s.settings) t m)) same_records
-        ∙ ap (λ (r : State). (accepted r, laid (needed s.settings) (table_of s l) m)) state_same
+        ∙ ap (λ (k : Settings). (Ok (state_of k (records_of file)), laid (needed k) (records_of file) m)) names
+        ∙ ap (λ (t : Table). (Ok (state_of s.settings t), laid (needed s.settings) t m)) same_records
+        ∙ ap (λ (r : State). (Ok r, laid (needed s.settings) (table_of s l) m)) state_same
 
     slots_again : take (slot_width * needed s.settings) (loaded o (saved (table_of s l)) m).1 ≡ take (slot_width * needed s.settings) l
     slots_again =
@@ -82,7 +82,7 @@ module _ (s : State) (l : List ℤ) (whole : sound s l ≡ true) where
         ∙ take_laid n (table_of s l) m short ∙ sym (take_laid n (table_of s l) l short) ∙ ap (take (slot_width * n)) as_laid
 
   -- where the load is accepted, the room was long enough
-  again_accepted : (o : Opening) → kept o ≡ s.settings → (m : List ℤ) (t : State) → (loaded o (saved (table_of s l)) m).0 ≡ accepted t → slot_width * needed s.settings ≤ length m
+  again_accepted : (o : Opening) → kept o ≡ s.settings → (m : List ℤ) (t : State) → (loaded o (saved (table_of s l)) m).0 ≡ Ok t → slot_width * needed s.settings ≤ length m
   again_accepted o names m t e = subst (λ (k : Settings). slot_width * needed k ≤ length m) names (load_accepts o (saved (table_of s l)) m t e).0.long
 
   laid_again : (m : List ℤ) → slot_width * needed s.settings ≤ length m → sound s (laid (needed s.settings) (table_of s l) m) ≡ true
@@ -93,18 +93,18 @@ module _ (s : State) (l : List ℤ) (whole : sound s l ≡ true) where
 
 -- ---- loaded, then saved
 
-module _ (o : Opening) (file : List ℕ) (l : List ℤ) (t : State) (known : AllBytes file) (accepts : (loaded o file l).0 ≡ accepted t) where
+module _ (o : Opening) (file : List ℕ) (l : List ℤ) (t : State) (known : AllBytes file) (accepts : (loaded o file l).0 ≡ Ok t) where
   granted : Granted (kept o) l
   granted = (load_accepts o file l t accepts).0
 
   that_loads : Loads (kept o) file
   that_loads = (load_accepts o file l t accepts).1
 
-  leaves : loaded o file l ≡ (accepted (state_of (kept o) (records_of file)), laid (needed (kept o)) (records_of file) l)
+  leaves : loaded o file l ≡ (Ok (state_of (kept o) (records_of file)), laid (needed (kept o)) (records_of file) l)
   leaves = load_leaves o file l granted that_loads
 
   state_is : t ≡ state_of (kept o) (records_of file)
-  state_is = let e : accepted t ≡ accepted (state_of (kept o) (records_of file)) = sym accepts ∙ ap (λ (p : Verdict State × List ℤ). p.0) leaves in cc
+  state_is = let e : Ok t ≡ Ok (state_of (kept o) (records_of file)) = sym accepts ∙ ap (λ (p : Verdict State × List ℤ). p.0) leaves in cc
 
   room_is : (loaded o file l).1 ≡ laid (needed (kept o)) (records_of file) l
   room_is = ap (λ (p : Verdict State × List ℤ). p.1) leaves
@@ -117,7 +117,7 @@ module _ (o : Opening) (file : List ℕ) (l : List ℤ) (t : State) (known : All
   sound_again : sound t (loaded o file l).1 ≡ true
   sound_again = ap (λ (r : State). sound r (loaded o file l).1) state_is ∙ ap (sound (state_of (kept o) (records_of file))) room_is ∙ laid_sound
 
-  bytes_again : (out : List ℕ) → length file ≤ length out → save_outcome t (loaded o file l).1 out ≡ (Written.Buckets (length file / record_width), file ++ drop (length file) out)
+  bytes_again : (out : List ℕ) → length file ≤ length out → save_outcome t (loaded o file l).1 out ≡ (Ok (length file / record_width), file ++ drop (length file) out)
   bytes_again out h =
       let all : record_width * (length file / record_width) ≡ length file = omega (arith, that_loads.even) in
       ap (λ (r : State). save_outcome r (loaded o file l).1 out) state_is
@@ -129,7 +129,7 @@ module _ (o : Opening) (file : List ℕ) (l : List ℤ) (t : State) (known : All
 
 -- what a sound trace saves loads, by whatever names its settings and into any room that is long enough, as the same state and the same table
 pub saved_loaded : (o : Opening) (s : State) (l m : List ℤ) → kept o ≡ s.settings → sound s l ≡ true → slot_width * needed s.settings ≤ length m
-    → loaded o (saved (table_of s l)) m ≡ (accepted s, laid (needed s.settings) (table_of s l) m)
+    → loaded o (saved (table_of s l)) m ≡ (Ok s, laid (needed s.settings) (table_of s l) m)
 saved_loaded o s l m names whole long = again s l whole o names m long
 
 -- and every needed slot is then as it was
@@ -138,23 +138,23 @@ pub saved_loaded_slots : (o : Opening) (s : State) (l m : List ℤ) → kept o �
 saved_loaded_slots o s l m names whole long = slots_again s l whole o names m long
 
 -- where that load is accepted, whatever the room held, the trace is the same and sound
-pub saved_accepted : (o : Opening) (s : State) (l m : List ℤ) (t : State) (n : List ℤ) → kept o ≡ s.settings → sound s l ≡ true → loaded o (saved (table_of s l)) m ≡ (accepted t, n)
+pub saved_accepted : (o : Opening) (s : State) (l m : List ℤ) (t : State) (n : List ℤ) → kept o ≡ s.settings → sound s l ≡ true → loaded o (saved (table_of s l)) m ≡ (Ok t, n)
     → (t ≡ s) × (n ≡ laid (needed s.settings) (table_of s l) m) × (sound s n ≡ true)
 saved_accepted o s l m t n names whole e =
     let long = again_accepted s l whole o names m t (ap (λ (p : Verdict State × List ℤ). p.0) e) in
-    let f : ◌≡◌ {A = Verdict State × List ℤ} (accepted t, n) (accepted s, laid (needed s.settings) (table_of s l) m) = sym e ∙ again s l whole o names m long in
-    let g : ◌≡◌ {A = Verdict State} (accepted t) (accepted s) = ap (λ (p : Verdict State × List ℤ). p.0) f in
+    let f : ◌≡◌ {A = Verdict State × List ℤ} (Ok t, n) (Ok s, laid (needed s.settings) (table_of s l) m) = sym e ∙ again s l whole o names m long in
+    let g : ◌≡◌ {A = Verdict State} (Ok t) (Ok s) = ap (λ (p : Verdict State × List ℤ). p.0) f in
     let room : n ≡ laid (needed s.settings) (table_of s l) m = ap (λ (p : Verdict State × List ℤ). p.1) f in
     ((let q : t ≡ s = cc in q), room, ap (sound s) room ∙ laid_again s l whole m long)
 
 -- an accepted load leaves a sound trace
-pub load_sound : (o : Opening) (file : List ℕ) (l : List ℤ) (t : State) → AllBytes file → (loaded o file l).0 ≡ accepted t
+pub load_sound : (o : Opening) (file : List ℕ) (l : List ℤ) (t : State) → AllBytes file → (loaded o file l).0 ≡ Ok t
     → sound t (loaded o file l).1 ≡ true
 load_sound o file l t known accepts = sound_again o file l t known accepts
 
 -- and saving that trace writes the bytes of the file, and no others
-pub loaded_saved : (o : Opening) (file : List ℕ) (l : List ℤ) (t : State) (out : List ℕ) → AllBytes file → (loaded o file l).0 ≡ accepted t → length file ≤ length out
-    → save_outcome t (loaded o file l).1 out ≡ (Written.Buckets (length file / record_width), file ++ drop (length file) out)
+pub loaded_saved : (o : Opening) (file : List ℕ) (l : List ℤ) (t : State) (out : List ℕ) → AllBytes file → (loaded o file l).0 ≡ Ok t → length file ≤ length out
+    → save_outcome t (loaded o file l).1 out ≡ (Ok (length file / record_width), file ++ drop (length file) out)
 loaded_saved o file l t out known accepts long = bytes_again o file l t known accepts out long
 
 -- the empty file is the empty trace

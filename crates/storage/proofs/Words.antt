@@ -1,18 +1,14 @@
--- A reading and its 32 bits: each gives back the other, and 64 bits hold what the code computes on the way.
-use Prim.Native.Nat.{ℕ, ◌-◌, ◌≤◌, suc}
+-- A reading and its 32 bits: each gives back the other, and both are the machine's.
+use Prim.Native.Nat.{ℕ, ◌-◌, suc}
 use mathlib.Core.Path.{◌≡◌, refl}
 use mathlib.Core.Bool.{Bool, true, false, cond}
-use native.Mathlib.Omega.{arith}
-use borrow.Author.Tests.{le-ltb, ltb-true}
 use lib.Dec.{ltb}
-use lib.IntN.{ℤ, pos, negsuc, ◌+ℤ◌, ◌-ℤ◌}
-use lib.Signed.{lt_z}
+use lib.IntN.{ℤ, pos, negsuc}
 use mir.Syntax.{w32}
 use mir.Val.{Fits, SFits, of_z, sel, to_z}
 use mir.Facts.{Fits-of_z, of_z-to_z, sfits_to_z, to_z-of_z}
 use Rattle.rule.specs.Numbers.{half, word}
 use Rattle.rule.specs.Bytes.{bits, reading}
-use Rattle.rule.proofs.Whole.{whole, difference, one_side, sum}
 
 chosen : (c : Bool) (x y : ℤ) → cond c x y ≡ sel c x y
 chosen true x y = refl
@@ -40,19 +36,3 @@ reading_bits {z} h = rw (reading_is, bits_is) (to_z-of_z h)
 
 pub bits_reading : {n : ℕ} → Fits w32 n → bits (reading n) ≡ n
 bits_reading {n} h = rw (bits_is, reading_is) (of_z-to_z h)
-
--- ---- a sign is 2 ^ 32 more or less
-
-pub upper : (n : ℕ) → half ≤ n → Fits w32 n → pos n -ℤ pos word ≡ reading n
-unfolding reading
-upper n h fits = rw (le-ltb n half h) (omega (whole, difference (pos n) (pos word), one_side (pos n -ℤ pos word)))
-
-pub below_zero : (z : ℤ) → SFits w32 z → lt_z z (pos 0) ≡ true → z +ℤ pos word ≡ pos (bits z)
-unfolding bits
-below_zero (pos n) fits h = absurd (omega (arith, ltb-true n 0 h))
-below_zero (negsuc n) fits h = omega (whole, sum (negsuc n) (pos word), one_side (negsuc n +ℤ pos word))
-
-pub not_below_zero : (z : ℤ) → lt_z z (pos 0) ≡ false → z ≡ pos (bits z)
-unfolding bits
-not_below_zero (pos n) h = refl
-not_below_zero (negsuc n) h = absurd (omega whole)

@@ -8,45 +8,36 @@ use borrow.Author.Tests.{eqb-true, eqb-false, leb-true, leb-false, ne_eqb}
 use lib.Dec.{eqb, leb, ltb}
 use lib.ListN.{drop, length, take, take-append-drop}
 use lib.Seq.{length-take-le, take_all}
+use Rattle.std.proofs.Common.{ℤ, Option, Some, None}
 use Rattle.rule.proofs.Whole.{by_test}
-use Rattle.rule.proofs.Ruling.{and_left, and_right}
 use Rattle.notation.specs.declared.Line.{Line}
-use Rattle.notation.specs.declared.Signed.{Signed}
-use Rattle.notation.specs.declared.Unsigned.{Unsigned}
 use Rattle.notation.specs.Reading.{alone, first_space, late, late_word, line_most, line_of, number, pair, same, signed_field, spaced, steps, steps_word, unsigned_field}
 use Rattle.notation.specs.Signs.{ascii, line_feed, space}
-use Rattle.notation.proofs.Lines.{space_within}
+use Rattle.notation.proofs.Lines.{same_word, space_within}
 use Rattle.listing.specs.Listing.{begins, lines}
 use Rattle.listing.proofs.Splitting.{Unbroken, lines_behind, prefixed, prefixed_first, prefixed_last}
 
 -- ---- the first word of a header
 
-pub same_word : (x y : List ℕ) → same x y ≡ true → x ≡ y
-unfolding same
-same_word [] [] e = refl
-same_word [] (b ∷ y) e = absurd (false≢true e)
-same_word (a ∷ x) [] e = absurd (false≢true e)
-same_word (a ∷ x) (b ∷ y) e = rw (eqb-true a b (and_left (eqb a b) (same x y) e), same_word x y (and_right (eqb a b) (same x y) e))
+abbrev pub is_steps : Option Line → Bool
+is_steps (Some (Line.Steps b)) = true
+is_steps (Some (Line.Late k)) = false
+is_steps (Some (Line.Alone v)) = false
+is_steps (Some (Line.Pair tick v)) = false
+is_steps None = false
 
-abbrev pub is_steps : Line → Bool
-is_steps (Line.Steps b) = true
-is_steps (Line.Late k) = false
-is_steps (Line.Alone v) = false
-is_steps (Line.Pair tick v) = false
-is_steps Line.Unreadable = false
+alone_no_steps : (v : Option ℤ) → is_steps (alone v) ≡ false
+alone_no_steps (Some z) = refl
+alone_no_steps None = refl
 
-alone_no_steps : (v : Signed) → is_steps (alone v) ≡ false
-alone_no_steps (Signed.Within z) = refl
-alone_no_steps Signed.Outside = refl
+late_no_steps : (k : Option ℕ) → is_steps (late k) ≡ false
+late_no_steps (Some n) = refl
+late_no_steps None = refl
 
-late_no_steps : (k : Unsigned) → is_steps (late k) ≡ false
-late_no_steps (Unsigned.Within n) = refl
-late_no_steps Unsigned.Outside = refl
-
-pair_no_steps : (t : Unsigned) (v : Signed) → is_steps (pair t v) ≡ false
-pair_no_steps (Unsigned.Within n) (Signed.Within z) = refl
-pair_no_steps (Unsigned.Within n) Signed.Outside = refl
-pair_no_steps Unsigned.Outside v = refl
+pair_no_steps : (t : Option ℕ) (v : Option ℤ) → is_steps (pair t v) ≡ false
+pair_no_steps (Some n) (Some z) = refl
+pair_no_steps (Some n) None = refl
+pair_no_steps None v = refl
 
 spaced_steps : (before behind : List ℕ) → is_steps (spaced before behind) ≡ true → before ≡ steps_word
 unfolding spaced
@@ -128,11 +119,11 @@ headed i e =
     headed_by (lines (drop 6 i)) i (ap lines (sym whole) ∙ lines_behind (ascii "steps ") (drop 6 i) steps_unbroken)
 
 -- its first line names steps, or cannot be read
-by_field : (P : Line → Type 0) → ((n : ℕ) → P (Line.Steps n)) → P Line.Unreadable → (u : Unsigned) → P (steps u)
-by_field P some none (Unsigned.Within n) = some n
-by_field P some none Unsigned.Outside = none
+by_field : (P : Option Line → Type 0) → ((n : ℕ) → P (Some (Line.Steps n))) → P None → (u : Option ℕ) → P (steps u)
+by_field P some none (Some n) = some n
+by_field P some none None = none
 
-pub word_read : (rest : List ℕ) (P : Line → Type 0) → ((n : ℕ) → P (Line.Steps n)) → P Line.Unreadable → P (line_of (ascii "steps " ++ rest))
+pub word_read : (rest : List ℕ) (P : Option Line → Type 0) → ((n : ℕ) → P (Some (Line.Steps n))) → P None → P (line_of (ascii "steps " ++ rest))
 unfolding line_of first_space spaced same
 word_read rest P some none =
     by_test (ltb line_most (length (ascii "steps " ++ rest))) (λ f. rw f none)

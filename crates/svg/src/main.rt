@@ -2,16 +2,24 @@
 
 #![tactic(auto)]
 
+ghost use Rattle.std.specs.Prelude.{◌≡◌, ◌&&◌, not};
+
+use ending::Failure;
 use heading::head;
 use legible::caption_good;
 use sketch::sketch;
 use sketching::Heading;
 use std::io::Read;
 
-mod ending;
+// Whether nothing was refused: a caption that is not good and a refused line end the run.
+fn goes_on(good: bool, refused: bool) -> bool
+    ensures { result ≡ good && not refused }
+{
+    good && !refused
+}
 
-// A caption that is not good and a refused line end the run, and nothing more is read. Where the input cannot be read to its end, what was read of it is not drawn.
-fn main(rt: HostRuntime) {
+// Where something is refused, nothing more is read. Where the input cannot be read to its end, what was read of it is not drawn.
+fn draw(rt: &HostRuntime) -> Result<(), Failure> {
     let mut room = [0i64; 3076];
     let mut line = [0u8; 64];
     let mut caption = [0u8; 201];
@@ -23,28 +31,33 @@ fn main(rt: HostRuntime) {
         taken: 0,
         ended: false,
     };
-    let mut more = true;
-    while more {
-        let Ok(n) = input.read(&mut piece) else {
-            ending::unread(&rt);
-            return;
-        };
+    'pieces: while goes_on(
+        caption_good(&caption[..heading.filled]),
+        begin::ended(state),
+    ) {
+        let n = input.read(&mut piece).map_err(|_| Failure::Unread)?;
         if n == 0 {
-            more = false;
-        } else {
-            heading = head(heading, &mut caption, &piece[0..n]);
-            let taken = heading.taken;
-            state = gathering::piece(state, &mut room, &mut line, &piece[taken..n]);
-            let filled = heading.filled;
-            let good = caption_good(&caption[0..filled]);
-            more = ending::goes_on(good, begin::ended(state));
+            break;
         }
+        heading = head(heading, &mut caption, &piece[..n]);
+        state = gathering::piece(state, &mut room, &mut line, &piece[heading.taken..n]);
     }
     state = reader::rest(state, &mut room, &line);
     let mut out = [0u8; 22866];
-    let filled = heading.filled;
-    let n = sketch(state, &room, &caption[0..filled], &mut out);
-    let written = rt.write_all(&out[0..n]).is_ok();
-    let good = caption_good(&caption[0..filled]);
-    ending::shown(&rt, ending::goes_on(good, begin::ended(state)), written);
+    let n = sketch(state, &room, &caption[..heading.filled], &mut out);
+    rt.write_all(&out[..n]).map_err(|_| Failure::Unwritten)?;
+    if !goes_on(
+        caption_good(&caption[..heading.filled]),
+        begin::ended(state),
+    ) {
+        return Err(Failure::Refused);
+    }
+    Ok(())
+}
+
+// Nothing is said of a picture. Where the line cannot be written, nothing more can be said.
+fn main(rt: HostRuntime) {
+    if let Err(failure) = draw(&rt) {
+        let _ = eprintln!(rt; "picture: {failure}");
+    }
 }

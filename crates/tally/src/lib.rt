@@ -7,11 +7,11 @@ ghost use Rattle.rule.specs.Calls.{counted, late_outcome, next_outcome};
 ghost use Rattle.trace.specs.Answers.{answered, verdict};
 
 use counting::counted;
-use rule::Tally;
-use trace::{Answer, Trace};
+use rule::{Refusal, Tally};
+use trace::Trace;
 
 // The next reading of a trace in order, counted.
-pub fn next(trace: Trace, room: &mut [i64], value: i32, tally: &mut Tally) -> Answer
+pub fn next(trace: Trace, room: &mut [i64], value: i32, tally: &mut Tally) -> Result<Trace, Refusal>
     ensures { ((result, room.new) ≡ answered (next_outcome trace.state room.old value)) × (tally.new ≡ counted tally.old trace.state.used (verdict result)) }
 {
     let a = trace.next(&mut *room, value);
@@ -22,7 +22,13 @@ pub fn next(trace: Trace, room: &mut [i64], value: i32, tally: &mut Tally) -> An
 }
 
 // A reading of a late trace at its tick, counted.
-pub fn late(trace: Trace, room: &mut [i64], tick: u32, value: i32, tally: &mut Tally) -> Answer
+pub fn late(
+    trace: Trace,
+    room: &mut [i64],
+    tick: u32,
+    value: i32,
+    tally: &mut Tally,
+) -> Result<Trace, Refusal>
     ensures { ((result, room.new) ≡ answered (late_outcome trace.state room.old tick value)) × (tally.new ≡ counted tally.old trace.state.used (verdict result)) }
 {
     let a = trace.late(&mut *room, tick, value);

@@ -1,6 +1,6 @@
 // Whether a bucket has a tick of a range, and is over a bar.
 
-#![tactic(auto)]
+#![tactic(auto, using(std::proofs::lemmas::Int::ints), unfolding(over::specs::Search::over, over::specs::Search::touches))]
 
 ghost use Rattle.std.specs.Prelude.{◌≡◌};
 ghost use Rattle.over.specs.Search.{over, touches};
@@ -11,25 +11,11 @@ use rule::Bucket;
 pub(crate) fn touches(first: u32, last: u32, b: Bucket) -> bool
     ensures { result ≡ touches first last b }
 {
-    let past = last as usize + 1;
-    let end = bucket::end(b);
-    if past <= first as usize {
-        return false;
-    }
-    if end <= first as usize {
-        return false;
-    }
-    if past <= b.start as usize {
-        return false;
-    }
-    (b.start as usize) < end
+    (first.max(b.start) as usize) < (last as usize + 1).min(bucket::end(b))
 }
 
 pub fn over(first: u32, last: u32, bar: i32, b: Bucket) -> bool
     ensures { result ≡ over first last bar b }
 {
-    if b.largest < bar {
-        return false;
-    }
-    touches(first, last, b)
+    bar <= b.largest && touches(first, last, b)
 }

@@ -23,27 +23,16 @@ pub struct Trace {
     pub state: State,
 }
 
-// What open and the two readings answer.
-#[derive(Clone, Copy)]
-pub enum Answer {
-    Accepted(Trace),
-    Refused(Refusal),
-}
-
 impl Trace {
     // An empty trace in the needed slots of the room.
-    pub fn open(named: Opening, room: &mut [i64]) -> Answer
+    pub fn open(named: Opening, room: &mut [i64]) -> Result<Trace, Refusal>
         ensures { (result, room.new) ≡ answered (opened named room.old) }
     {
-        match admit(named, &*room) {
-            Admitted::Refused(r) => Answer::Refused(r),
-            Admitted::Granted { settings, slots } => {
-                clear(&mut *room, 0, SLOT * slots);
-                Answer::Accepted(Trace {
-                    state: empty(settings),
-                })
-            }
-        }
+        let Admitted { settings, slots } = admit(named, &*room)?;
+        clear(&mut *room, 0, SLOT * slots);
+        Ok(Trace {
+            state: empty(settings),
+        })
     }
 
     // A reading of which the place, the runs there are with it and the tick are known: for whoever knows that the trace is sound and the reading is taken.
@@ -72,20 +61,21 @@ impl Trace {
     }
 
     // A reading that is refused, or goes to its place: for whoever knows its arrival.
-    pub fn take(self, arrival: Arrival, room: &mut [i64], value: i32) -> Answer
+    pub fn take(
+        self,
+        arrival: Result<Arrival, Refusal>,
+        room: &mut [i64],
+        value: i32,
+    ) -> Result<Trace, Refusal>
         requires { Arrives self.state room.old value arrival }
         ensures { (result, room.new) ≡ answered (traced self.state.settings room.old (taken self.state room.old value arrival)) }
     {
-        match arrival {
-            Arrival::Refused(r) => Answer::Refused(r),
-            Arrival::Goes { at, runs, tick } => {
-                Answer::Accepted(self.accept(&mut *room, at, runs, tick, value))
-            }
-        }
+        let Arrival { at, runs, tick } = arrival?;
+        Ok(self.accept(&mut *room, at, runs, tick, value))
     }
 
     // The next reading of a trace in order.
-    pub fn next(self, room: &mut [i64], value: i32) -> Answer
+    pub fn next(self, room: &mut [i64], value: i32) -> Result<Trace, Refusal>
         ensures { (result, room.new) ≡ answered (next_outcome self.state room.old value) }
     {
         let arrival = arrival::next(self.state, &*room);
@@ -93,7 +83,7 @@ impl Trace {
     }
 
     // A reading at its tick, in any order, of a late trace.
-    pub fn late(self, room: &mut [i64], tick: u32, value: i32) -> Answer
+    pub fn late(self, room: &mut [i64], tick: u32, value: i32) -> Result<Trace, Refusal>
         ensures { (result, room.new) ≡ answered (late_outcome self.state room.old tick value) }
     {
         let arrival = arrival::late(self.state, &*room, tick);
@@ -101,7 +91,7 @@ impl Trace {
     }
 
     // The holding bucket's level, error, least and largest.
-    pub fn lookup(self, room: &[i64], tick: u32) -> Found
+    pub fn lookup(self, room: &[i64], tick: u32) -> Result<Found, Refusal>
         ensures { result ≡ lookup_outcome self.state room.now tick }
     {
         lookup::lookup(self.state, room, tick)

@@ -8,7 +8,7 @@ ghost use Rattle.rule.specs.Room.{slots};
 ghost use Rattle.rule.specs.Table.{worst};
 ghost use Rattle.rooms.specs.Slots.{Filled};
 
-use rule::{Measured, Refusal};
+use rule::Refusal;
 use sound::sound;
 use trace::Trace;
 
@@ -18,24 +18,19 @@ pub fn greatest_error(room: &[i64], used: usize) -> u32
     ensures { result ≡ worst (slots room.now 0 used) }
 {
     let mut most: u32 = 0;
-    let mut i = 0;
-    while i < used {
-        let e = bucket::error(slots::read(room, i));
-        if most < e {
-            most = e;
-        }
-        i += 1;
+    for i in 0..used {
+        most = most.max(bucket::error(slots::read(room, i)));
     }
     most
 }
 
 // The greatest error of the buckets of a sound trace.
-pub fn worst(trace: Trace, room: &[i64]) -> Measured
+pub fn worst(trace: Trace, room: &[i64]) -> Result<u32, Refusal>
     ensures { result ≡ worst_outcome trace.state room.now }
 {
     let s = trace.state;
     if !sound(s, room) {
-        return Measured::Refused(Refusal::Unsound);
+        return Err(Refusal::Unsound);
     }
-    Measured::Error(greatest_error(room, s.used))
+    Ok(greatest_error(room, s.used))
 }

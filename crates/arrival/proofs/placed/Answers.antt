@@ -10,7 +10,6 @@ use Rattle.rule.specs.Numbers.{ticks}
 use Rattle.rule.specs.Room.{table_of}
 use Rattle.rule.specs.Table.{holding, runs}
 use Rattle.rooms.specs.Steps.{Placed, with}
-use Rattle.arrival.specs.Arrivals.{met}
 use Rattle.rooms.proofs.Arriving.{Passed, late_filled, late_free, late_joins, late_left, late_placed, late_runs, late_truth}
 use Rattle.arrival.proofs.placed.Goals.{After-find-at, After-joins, Else-held, Else-tick-ge-TICKS}
 use Rattle.arrival.proofs.placed.Goals as goal
@@ -34,11 +33,11 @@ truth : (c : After-joins) (v : ℤ) → c.args.s.runs + 1 - c.joins.result ≡ r
 truth c = late_truth (passed_after_joins c) c.joins.result c.joins.ensures
 
 pub returns-then-tick-ge-TICKS : goal.returns-then-tick-ge-TICKS
-unfolding checked met
+unfolding checked
 returns-then-tick-ge-TICKS c v = rw (c.requires.0, c.requires.1, le-leb ticks _ c.if-tick-ge-TICKS.true)
 
 pub returns-then-held : goal.returns-then-held
-unfolding checked met
+unfolding checked
 returns-then-held c v =
     let p = passed (goal.at.returns-then-held c).Else-tick-ge-TICKS in
     rw (p.fit, p.kind, lt-leb ticks _ p.small, sym c.held.ensures ∙ c.if-held.true)
@@ -50,13 +49,13 @@ pub overflow_sub-runs : goal.overflow_sub-runs
 overflow_sub-runs c = late_joins (passed (goal.at.overflow_sub-runs c).Else-tick-ge-TICKS) c.joins.result c.joins.ensures (pos 0)
 
 pub returns-then-settings-runs : goal.returns-then-settings-runs
-unfolding checked met
+unfolding checked
 returns-then-settings-runs c v =
     let s = c.args.s in
     rw (late_left (passed (goal.at.returns-then-settings-runs c).Else-tick-ge-TICKS) (free (goal.at.returns-then-settings-runs c).Else-held) v, ← truth (goal.at.returns-then-settings-runs c).After-joins v, lt-ltb s.settings.gaps (s.runs + 1 - c.joins.result) c.if-settings-runs.true)
 
 pub returns : goal.returns
-unfolding checked met
+unfolding checked
 returns c v =
     let s = c.args.s in
     rw (late_left (passed (goal.at.returns c).Else-tick-ge-TICKS) (free (goal.at.returns c).Else-held) v, ← truth (goal.at.returns c).After-joins v, le-ltb s.settings.gaps (s.runs + 1 - c.joins.result) c.if-settings-runs.false, ← c.find-at.ensures)

@@ -1,50 +1,23 @@
 -- `captioning::put_caption` meets its contract: what is printed and what is left to print are the whole.
-use Prim.Native.Nat.{◌+◌, ◌-◌}
-use mathlib.Core.Path.{refl, sym, ◌∙◌}
-use mathlib.Core.List.{append-nil}
-use native.Mathlib.Omega.{arith}
-use lib.ListN.{drop, get_or}
-use Rattle.output.proofs.Left.{left_all, left_empty, left_none, left_room, left_split, left_then}
+use Prim.Native.Nat.{ℕ, ◌+◌, ◌<◌}
+use mathlib.Core.List.{List, [], ◌∷◌}
+use lib.ListN.{drop, get_or, length}
+use Rattle.output.proofs.Left.{Left, left_empty, left_none, left_room, left_split, left_then}
 use Rattle.captions.specs.Caption.{escaped, leaving, signs}
 use Rattle.captions.proofs.Escaping.{escaped_done, escaped_next}
 use Rattle.captioning.proofs.put_caption.Goals as goal
 
-pub loop-done-init : goal.loop-done-init
-loop-done-init c =
-    let a = c.args in
-    (omega arith, refl, left_all a.out.now a.at (escaped a.caption.now) _ (sym (append-nil (escaped a.caption.now))))
+-- what the next byte leaves as, apart from the rest
+next_left : {o p all : List ℕ} {at n : ℕ} (c : List ℕ) (i : ℕ) → i < length c → Left o at all n p (escaped (drop i c) ∷ []) → Left o at all n p (leaving signs (get_or c i 0) ∷ escaped (drop (i + 1) c) ∷ [])
+next_left c i h x = left_split _ _ x (escaped_next c i h)
 
 pub put_leaving-next-requires : goal.put_leaving-next-requires
 put_leaving-next-requires c =
-    let caption = c.args.caption.now in
-    let loop = c.loop-done in
-    left_room
-    (left_split (leaving signs (get_or caption loop.done 0)) (escaped (drop (loop.done + 1) caption)) loop.invariant.2 (escaped_next caption loop.done (omega arith)))
-    c.requires
+    let loop = c.loop-b in left_room (next_left c.args.caption.now loop.b-index c.loop-b-test.true loop.invariant) c.requires
 
-pub loop-done-preserved : goal.loop-done-preserved
-loop-done-preserved c =
-    let caption = c.args.caption.now in
-    let loop = c.loop-done in
-    let put = c.put_leaving-next in (
-      omega arith,
-      put.auto.out ∙ loop.invariant.1,
-      left_then
-          (left_split (leaving signs (get_or caption loop.done 0)) (escaped (drop (loop.done + 1) caption)) loop.invariant.2 (escaped_next caption loop.done (omega arith)))
-          put.ensures,
-    )
-
-pub bounds-caption-done : goal.bounds-caption-done
-bounds-caption-done c = omega arith
-
-pub overflow_add-done : goal.overflow_add-done
-overflow_add-done c = omega arith
-
-pub loop-done-smaller : goal.loop-done-smaller
-loop-done-smaller c = omega arith
-
-pub shape_of-out : goal.shape_of-out
-shape_of-out c = c.loop-done.invariant.1
+pub loop-b-preserved : goal.loop-b-preserved
+loop-b-preserved c =
+    let loop = c.loop-b in left_then (next_left c.args.caption.now loop.b-index c.loop-b-test.true loop.invariant) c.put_leaving-next.ensures
 
 pub returns : goal.returns
-returns c = left_none (left_empty c.loop-done.invariant.2 (escaped_done c.args.caption.now c.loop-done.done (omega arith)))
+returns c = left_none (left_empty c.loop-b.invariant (escaped_done c.args.caption.now c.loop-b.b-index c.loop-b-test.false))

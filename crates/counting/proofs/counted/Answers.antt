@@ -3,10 +3,10 @@ use Rattle.rule.specs.Calls.{counted}
 use Rattle.trace.specs.Answers.{verdict}
 use Rattle.counting.proofs.counted.Goals as goal
 
-pub returns-in-Accepted : goal.returns-in-Accepted
+pub returns-in-Ok : goal.returns-in-Ok
 unfolding counted verdict
-returns-in-Accepted c = rw (c.in-Accepted.is, c.merged.ensures, c.grown.ensures)
+returns-in-Ok c = rw (c.in-Ok.is, c.merged.ensures, c.grown.ensures)
 
-pub returns-in-Refused : goal.returns-in-Refused
+pub returns-in-Err : goal.returns-in-Err
 unfolding counted verdict
-returns-in-Refused c = rw (c.in-Refused.is, c.grown-in-Refused.ensures)
+returns-in-Err c = rw (c.in-Err.is, c.grown-in-Err.ensures)

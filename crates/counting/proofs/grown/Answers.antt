@@ -1,12 +1,14 @@
--- `counting::grown` meets its contract: the count stops exactly where what is left to the most is less than it grows by.
-use native.Mathlib.Omega.{arith}
+-- `counting::grown` meets its contract: what the count grows by is cut to what it holds, and so is the sum.
+use Rattle.std.proofs.Common.{◌≡◌, ℕ, ◌<◌, ◌^◌, Result, Ok, Err, arith}
+use Prim.Native.Nat.{min}
+use Rattle.std.specs.Result.{OkIff, result_unwrap_or}
 use Rattle.rule.specs.Calls.{grown}
 use Rattle.counting.proofs.grown.Goals as goal
 
-pub returns-then-left-by : goal.returns-then-left-by
-unfolding grown
-returns-then-left-by c = omega (arith, c.if-left-by.true)
+cut : {E : Type 0} (r : Result ℕ E) (n : ℕ) → OkIff r (n < 2 ^ 32) n → result_unwrap_or r 4294967295 ≡ min n 4294967295
+cut (Ok x) n h = omega arith
+cut (Err e) n h = omega arith
 
-pub returns-else-left-by : goal.returns-else-left-by
+pub returns : goal.returns
 unfolding grown
-returns-else-left-by c = omega (arith, c.if-left-by.false, c.ranges.count)
+returns c = omega (arith, cut c.try_from.result c.args.by c.try_from.ensures)

@@ -1,9 +1,8 @@
 -- `curve::put_lines` meets its contract: the first bucket, and all that follows it.
 use Prim.Native.Nat.{◌-◌}
-use mathlib.Core.Path.{refl, ap, ◌∙◌}
+use mathlib.Core.Path.{refl, ◌∙◌}
 use mathlib.Core.List.{[], ◌∷◌}
 use native.Mathlib.Omega.{arith}
-use lib.IntN.{pos}
 use Rattle.rule.specs.Bucket.{end}
 use Rattle.rule.specs.Room.{slots}
 use Rattle.rooms.proofs.Reading.{filled}
@@ -39,11 +38,11 @@ begun_after_put_text_begun c =
 
 opened : (c : After-put_text-begun) → let a = c.args in let b = c.read-first.result in
     Left a.out.now a.at (polylines a.v (runs_of (slots a.room.now 0 a.used))) c.put_text-begun.result c.put_text-begun.new.out (printed (points_of a.v (b ∷ [])) ∷ lines_after a.v (end b) (slots a.room.now 1 (a.used - 1)) ∷ [])
-opened c = left_then (begun_after_put_text_begun c) (rw (text_line (pos 0 ∷ [])) at c.put_text-begun.ensures)
+opened c = left_then (begun_after_put_text_begun c) (rw (text_line []) at c.put_text-begun.ensures)
 
 opened_after_put_points_next : (c : After-put_points-next) → let a = c.args in let b = c.read-first.result in
     Left a.out.now a.at (polylines a.v (runs_of (slots a.room.now 0 a.used))) c.put_text-begun.result c.put_text-begun.new.out (printed (points_of a.v (b ∷ [])) ∷ lines_after a.v (end b) (slots a.room.now 1 (a.used - 1)) ∷ [])
-opened_after_put_points_next c = left_then (begun_after_put_points_next c) (rw (text_line (pos 0 ∷ [])) at c.put_text-begun.ensures)
+opened_after_put_points_next c = left_then (begun_after_put_points_next c) (rw (text_line []) at c.put_text-begun.ensures)
 
 first_put : (c : After-put_points-next) → let a = c.args in let b = c.read-first.result in
     Left a.out.now a.at (polylines a.v (runs_of (slots a.room.now 0 a.used))) c.put_points-next.result c.put_points-next.new.out (lines_after a.v (end b) (slots a.room.now 1 (a.used - 1)) ∷ [])
@@ -53,7 +52,7 @@ pub read-first-requires : goal.read-first-requires
 read-first-requires c = filled c.requires.0 0 (omega (arith, c.if-used-eq0.false))
 
 pub put_text-begun-requires : goal.put_text-begun-requires
-put_text-begun-requires c = rw (text_line (pos 0 ∷ [])) (left_room (begun (goal.at.put_text-begun-requires c).After-read-first) c.requires.1.1)
+put_text-begun-requires c = rw (text_line []) (left_room (begun (goal.at.put_text-begun-requires c).After-read-first) c.requires.1.1)
 
 pub put_points-next-requires : goal.put_points-next-requires
 put_points-next-requires c = (c.requires.1.0, left_room (opened (goal.at.put_points-next-requires c).After-put_text-begun) c.requires.1.1)

@@ -1,5 +1,4 @@
 -- `curve::put_next` meets its contract: two pieces, one behind the other.
-use mathlib.Core.Path.{ap}
 use mathlib.Core.List.{[], ◌∷◌, ◌++◌, append-nil}
 use Rattle.output.proofs.Left.{Left, left_all, left_none, left_room, left_then}
 use Rattle.drawing.specs.Picture.{points_of, printed}

@@ -1,16 +1,12 @@
 -- `faults::counts` meets its contract. What is counted and what is left to count are the whole's; they are few enough to be added.
-use Prim.Native.Nat.{◌-◌, ◌/◌, ◌≤◌, ◌<◌}
+use Prim.Native.Nat.{◌/◌, ◌≤◌, ◌<◌}
 use native.Mathlib.Omega.{arith}
 use lib.ListN.{length}
-use Rattle.rule.specs.Numbers.{record_width, ticks}
+use Rattle.rule.specs.Numbers.{record_width}
 use Rattle.rules.proofs.Numbered.{at_most_one}
-use Rattle.faults.proofs.Faults.{readings_done, readings_next, readings_whole, readings_left, runs_done, runs_next, runs_whole}
+use Rattle.faults.proofs.Faults.{readings_done, readings_next, readings_whole, runs_done, runs_next, runs_whole}
 use Rattle.storage.proofs.RoundTrip.{file_fitted}
-use Rattle.faults.proofs.counts.Goals.{Start}
 use Rattle.faults.proofs.counts.Goals as goal
-
-few : (c : Start) → readings_left c.args.file.now (length c.args.file.now / record_width) 0 ≤ ticks
-few c = rw (readings_whole c.args.file.now) c.requires
 
 pub overflow_add-readings : goal.overflow_add-readings
 overflow_add-readings c =
@@ -18,8 +14,7 @@ overflow_add-readings c =
     let loop = c.loop-i in
     let read = c.read-b in
     let more : loop.i < length l / record_width = omega arith in
-    omega
-    (arith, few (goal.at.overflow_add-readings c).Start, readings_next l _ loop.end loop.i read.result read.ensures more)
+    omega (arith, readings_whole l, readings_next l _ loop.end loop.i read.result read.ensures more)
 
 pub loop-i-preserved : goal.loop-i-preserved
 loop-i-preserved c =
@@ -44,21 +39,6 @@ returns c =
       arith,
       runs_done l _ loop.end loop.i left,
       readings_done l _ loop.i left,
-      runs_whole l (file_fitted l (λ i. omega (arith, c.shared_slice_known-1.given i))),
+      runs_whole l (file_fitted l (λ i. (c.type_inv.file i).fits)),
       readings_whole l,
     )
-
-pub loop-i-init : goal.loop-i-init
-loop-i-init c = omega arith
-
-pub read-b-requires : goal.read-b-requires
-read-b-requires c = omega arith
-
-pub overflow_add-runs : goal.overflow_add-runs
-overflow_add-runs c = omega (arith, at_most_one c.loop-i.end c.read-b.result.start)
-
-pub overflow_add-i : goal.overflow_add-i
-overflow_add-i c = omega arith
-
-pub loop-i-smaller : goal.loop-i-smaller
-loop-i-smaller c = omega arith

@@ -16,12 +16,12 @@ use Rattle.faults.proofs.Faults.{file_refused, file_whole}
 use Rattle.storage.proofs.Records.{length_file}
 use Rattle.rooms.proofs.Bounds.{limit_gaps, needed_small}
 use Rattle.rule.proofs.Ruling.{flipped}
-use Rattle.faults.specs.declared.Inspected.TheVariants.{Counts}
 use Rattle.faults.specs.Verdicts.{inspection}
 use Rattle.rule.specs.Calls.{file_verdict}
 use Rattle.faults.proofs.Faults.{whole_readings}
 use Rattle.faults.proofs.inspect.Goals.{After-limit, After-runs_allowed, Else-file-ne0, Else-place-count}
 use Rattle.faults.proofs.inspect.Goals as goal
+use Rattle.std.specs.Prelude.{Ok}
 
 even_here : (c : Else-file-ne0) → eqb (length c.args.file.now % record_width) 0 ≡ true
 even_here c = eq-eqb _ 0 c.if-file-ne0.false
@@ -84,7 +84,7 @@ returns c =
       allowed_here (goal.at.returns c).After-runs_allowed c.if-not-runs_allowed.false-raw,
       le-ltb (limit a.s (runs t)) (length t) (omega (arith, length_file a.file.now, limit_here (goal.at.returns c).After-limit, c.if-limit-count.false)),
     )
-    (λ i. Counts (record { runs = told.0 i; readings = told.1 i }))
+    (λ i. Ok (record { runs = told.0 i; readings = told.1 i }))
 
 pub counts-c-requires : goal.counts-c-requires
 counts-c-requires c = whole_readings _ _ (whole_here c)

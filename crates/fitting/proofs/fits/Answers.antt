@@ -17,5 +17,5 @@ returns-in_default c = rw (eq-eqb c.args.b line_feed c.if-b-ne10.false, c.if-kno
 pub returns : goal.returns
 unfolding fit_now
 returns c =
-    rw (eq-eqb c.args.b line_feed c.if-b-ne10.false, c.if-known.false, c.in-Accepted.is)
+    rw (eq-eqb c.args.b line_feed c.if-b-ne10.false, c.if-known.false, c.in-Ok.is)
     c.sound.ensures

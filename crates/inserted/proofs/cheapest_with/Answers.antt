@@ -4,7 +4,7 @@ use native.Mathlib.Omega.{arith}
 use Rattle.rule.specs.Room.{slots}
 use Rattle.rooms.specs.Slots.{put_at}
 use Rattle.rooms.proofs.Laying.{slots_end}
-use Rattle.rooms.proofs.Reading.{filled, filled_front}
+use Rattle.rooms.proofs.Reading.{filled_front}
 use Rattle.scan.specs.Best.{unmet}
 use Rattle.scan.proofs.Keeping.{light_cheapest, light_choice}
 use Rattle.scan.proofs.Scanning.{fitted_with, place_among, its_place}
@@ -16,18 +16,15 @@ returns-then-at-used c =
     let all = its_place a.edition (put_at a.used a.b (slots a.room.now 0 a.used)) (fitted_with a.room.now a.used a.used a.b c.requires.0 c.requires.1.1) in
     rw (c.ending-up_to_it.ensures, c.if-at-used.true, ← slots_end a.room.now a.used a.b) all
 
-pub pass-all-requires : goal.pass-all-requires
-pass-all-requires c =
+pub pass-requires : goal.pass-requires
+pass-requires c =
     (c.requires.0, (c.requires.1.0, (omega arith, rw (c.better-with_next.ensures, c.ending-up_to_it.ensures) (light_choice _ _ _ _ _ (light_cheapest _ unmet _ _ (λ _. refl))))))
 
 pub returns : goal.returns
 returns c =
     let a = c.args in
-    rw (c.pass-all.ensures, c.better-with_next.ensures, c.read.ensures, c.ending-up_to_it.ensures)
+    rw (c.pass.ensures, c.better-with_next.ensures, c.read.ensures, c.ending-up_to_it.ensures)
     (place_among a.edition a.room.now a.used a.at a.b c.requires.0 c.requires.1.1 (omega (arith, c.requires.1.0)))
 
 pub ending-up_to_it-requires : goal.ending-up_to_it-requires
 ending-up_to_it-requires c = filled_front c.requires.0 c.requires.1.0
-
-pub read-requires : goal.read-requires
-read-requires c = filled c.requires.0 c.args.at (omega (arith, c.requires.1.0))

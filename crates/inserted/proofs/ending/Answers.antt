@@ -5,7 +5,6 @@ use native.Mathlib.Nat.{sub-zero}
 use native.Mathlib.Omega.{arith}
 use Rattle.rule.specs.Room.{slot, slots}
 use Rattle.rule.specs.Table.{cheapest, choice}
-use Rattle.rooms.proofs.Reading.{filled}
 use Rattle.scan.specs.Best.{better, unmet}
 use Rattle.scan.proofs.Keeping.{better_both}
 use Rattle.scan.proofs.Scanning.{ended}
@@ -21,6 +20,3 @@ returns c =
     let l = a.room.now in
     rw (c.better.ensures, c.read.ensures, c.pass-slots.ensures, sub-zero)
     (better_both unmet (cheapest a.edition 0 (slots l 0 a.at)) (choice a.edition (a.at - 1) (slot l (a.at - 1)) a.b) ∙ ap (better unmet) (ended a.edition l a.b (a.at - 1) a.at (omega arith)))
-
-pub read-requires : goal.read-requires
-read-requires c = filled c.requires (c.args.at - 1) (omega arith)

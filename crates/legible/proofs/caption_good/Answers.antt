@@ -1,48 +1,31 @@
--- `legible::caption_good` meets its contract: the bytes from here on decide as all of them do.
-use Prim.Native.Nat.{◌-◌}
-use mathlib.Core.Path.{refl, ◌∙◌}
-use native.Mathlib.Omega.{arith}
-use borrow.Author.Tests.{le-leb, lt-leb}
+-- `legible::caption_good` meets its contract.
+use Prim.Native.Nat.{ℕ}
+use mathlib.Core.Path.{◌≡◌, refl}
+use mathlib.Core.Bool.{◌&&◌}
+use lib.Dec.{leb}
+use mathlib.Core.List.{List, [], ◌∷◌}
+use borrow.Author.Tests.{le-leb, lt-leb, tests}
 use lib.ListN.{length}
-use Rattle.rule.proofs.Ruling.{flipped}
-use Rattle.captions.specs.Caption.{caption_good, caption_most}
-use Rattle.captions.proofs.Escaping.{printable_done, printable_next}
+use Rattle.std.proofs.Common.{rules}
+use Rattle.std.specs.List.{list_all}
+use Rattle.std.proofs.lemmas.Iterator.{YieldsList-from_slice}
+use Rattle.std.proofs.lemmas.Iterator.Search.{all_from_yields_List}
+use Rattle.captions.specs.Caption.{all_printable, caption_good, caption_most, printable}
 use Rattle.legible.proofs.caption_good.Goals as goal
 
-pub returns-then-caption-gt200 : goal.returns-then-caption-gt200
+each_printable : (c : List ℕ) → list_all (λ b. leb 0x20 b && leb b 0x7E) c ≡ all_printable c
+unfolding all_printable printable
+each_printable [] = refl
+each_printable (b ∷ c) = rw (each_printable c)
+
+pub returns-then-caption-le200 : goal.returns-then-caption-le200
 unfolding caption_good
-returns-then-caption-gt200 c = rw (lt-leb (length c.args.caption.now) caption_most (omega arith))
+returns-then-caption-le200 c =
+    let caption = c.args.caption.now in
+    let e : c.all.result ≡ list_all (λ b. leb 0x20 b && leb b 0x7E) caption =
+    all_from_yields_List (λ b. leb 0x20 b && leb b 0x7E) _ _ c.all.result c.all.ensures.ran (YieldsList-from_slice caption cc) (λ x b q k. search (rules, tests)) in
+    rw (e, each_printable caption, le-leb (length caption) caption_most c.if-caption-le200.true)
 
-pub returns-then-not-is_printable : goal.returns-then-not-is_printable
+pub returns-else-caption-le200 : goal.returns-else-caption-le200
 unfolding caption_good
-returns-then-not-is_printable c =
-    let caption = c.args.caption.now in
-    let loop = c.loop-i in
-    rw (le-leb (length caption) caption_most (omega arith), loop.invariant.1, printable_next caption loop.i c.loop-i-test.true, flipped c.is_printable.ensures c.if-not-is_printable.true-raw)
-
-pub loop-i-preserved : goal.loop-i-preserved
-loop-i-preserved c =
-    let caption = c.args.caption.now in
-    let loop = c.loop-i in
-    (omega arith, loop.invariant.1 ∙ printable_next caption loop.i c.loop-i-test.true ∙ rw (flipped c.is_printable.ensures c.if-not-is_printable.false-raw))
-
-pub returns : goal.returns
-unfolding caption_good
-returns c =
-    let caption = c.args.caption.now in
-    rw (le-leb (length caption) caption_most (omega arith), c.loop-i.invariant.1, printable_done caption c.loop-i.i c.loop-i-test.false)
-
-pub loop-i-init : goal.loop-i-init
-loop-i-init c = (omega arith, refl)
-
-pub bounds-caption-i : goal.bounds-caption-i
-bounds-caption-i c = omega arith
-
-pub is_printable-requires : goal.is_printable-requires
-is_printable-requires c = tt
-
-pub overflow_add-i : goal.overflow_add-i
-overflow_add-i c = omega arith
-
-pub loop-i-smaller : goal.loop-i-smaller
-loop-i-smaller c = omega arith
+returns-else-caption-le200 c = rw (lt-leb (length c.args.caption.now) caption_most c.if-caption-le200.false)

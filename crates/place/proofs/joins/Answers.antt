@@ -1,6 +1,5 @@
 -- `place::joins` meets its contract.
-use native.Mathlib.Omega.{arith}
-use Rattle.rooms.proofs.Placing.{byte_small, filled_before, slot_joins}
+use Rattle.rooms.proofs.Placing.{filled_before, slot_joins}
 use Rattle.place.proofs.joins.Goals as goal
 
 pub returns : goal.returns
@@ -8,6 +7,3 @@ returns c = λ v. rw (c.ends_before.ensures, c.starts_after.ensures) (slot_joins
 
 pub ends_before-requires : goal.ends_before-requires
 ends_before-requires c = filled_before c.requires.0
-
-pub overflow_add-result : goal.overflow_add-result
-overflow_add-result c = omega (arith, byte_small c.ends_before.result, byte_small c.starts_after.result)

@@ -2,10 +2,10 @@
 use Rattle.plain.specs.Plain.{replying}
 use Rattle.plain.proofs.replying.Goals as goal
 
-pub returns-in-Accepted : goal.returns-in-Accepted
+pub returns-in-Ok : goal.returns-in-Ok
 unfolding replying
-returns-in-Accepted c = rw (c.in-Accepted.is, c.fields_of.ensures)
+returns-in-Ok c = rw (c.in-Ok.is, c.fields_of.ensures)
 
-pub returns-in-Refused : goal.returns-in-Refused
+pub returns-in-Err : goal.returns-in-Err
 unfolding replying
-returns-in-Refused c = rw (c.in-Refused.is, c.number.ensures, c.place.ensures)
+returns-in-Err c = rw (c.in-Err.is, c.number.ensures, c.place.ensures)

@@ -2,10 +2,10 @@
 use Rattle.plain.specs.Plain.{telling}
 use Rattle.plain.proofs.telling.Goals as goal
 
-pub returns-in-Buckets : goal.returns-in-Buckets
+pub returns-in-Ok : goal.returns-in-Ok
 unfolding telling
-returns-in-Buckets c = rw c.in-Buckets.is
+returns-in-Ok c = rw c.in-Ok.is
 
-pub returns-in-Refused : goal.returns-in-Refused
+pub returns-in-Err : goal.returns-in-Err
 unfolding telling
-returns-in-Refused c = rw (c.in-Refused.is, c.number.ensures, c.place.ensures)
+returns-in-Err c = rw (c.in-Err.is, c.number.ensures, c.place.ensures)

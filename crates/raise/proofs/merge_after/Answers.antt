@@ -15,29 +15,8 @@ returns c =
     rw (c.write.ensures, c.union.ensures, c.up.ensures, c.read-right.ensures, c.read-left.ensures)
     (merged_after c.args.room.now c.args.used c.args.at (c.args.i - 1) c.args.i _ c.args.b c.requires.0.filled (omega arith) (omega arith) c.requires.1.1 refl)
 
-pub overflow_sub-i : goal.overflow_sub-i
-overflow_sub-i c = omega arith
-
 pub read-left-requires : goal.read-left-requires
 read-left-requires c = filled c.requires.0.filled (c.args.i - 1) (omega arith)
 
 pub read-right-requires : goal.read-right-requires
 read-right-requires c = filled c.requires.0.filled c.args.i (omega arith)
-
-pub overflow_mul-from : goal.overflow_mul-from
-overflow_mul-from c = omega arith
-
-pub overflow_mul-to : goal.overflow_mul-to
-overflow_mul-to c = omega arith
-
-pub offset_bounds-room-from : goal.offset_bounds-room-from
-offset_bounds-room-from c = omega arith
-
-pub slice_bounds-up-count : goal.slice_bounds-up-count
-slice_bounds-up-count c = omega arith
-
-pub slice_bounds-up-start : goal.slice_bounds-up-start
-slice_bounds-up-start c = omega arith
-
-pub slice_bounds-up-end : goal.slice_bounds-up-end
-slice_bounds-up-end c = omega arith

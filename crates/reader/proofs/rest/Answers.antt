@@ -10,10 +10,10 @@ returns-in_default c = rw c.in_default.is
 
 pub returns-then-f-eq0 : goal.returns-then-f-eq0
 unfolding rest_fed
-returns-then-f-eq0 c = rw (c.in-Accepted.is, c.if-f-eq0.true)
+returns-then-f-eq0 c = rw (c.in-Ok.is, c.if-f-eq0.true)
 
 pub returns : goal.returns
 unfolding rest_fed
 returns c =
     let a = c.args in
-    rw (ne_eqb a.f.filled 0 c.if-f-eq0.false) c.line_ended.ensures ∙ sym (ap (λ x. rest_fed x a.f a.room.now a.line.now) c.in-Accepted.is)
+    rw (ne_eqb a.f.filled 0 c.if-f-eq0.false) c.line_ended.ensures ∙ sym (ap (λ x. rest_fed x a.f a.room.now a.line.now) c.in-Ok.is)

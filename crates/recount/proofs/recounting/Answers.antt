@@ -2,10 +2,10 @@
 use Rattle.plain.specs.Plain.{recounting}
 use Rattle.recount.proofs.recounting.Goals as goal
 
-pub returns-in-Done : goal.returns-in-Done
+pub returns-in-Ok : goal.returns-in-Ok
 unfolding recounting
-returns-in-Done c = rw (c.in-Done.is, c.fields_of.ensures)
+returns-in-Ok c = rw (c.in-Ok.is, c.fields_of.ensures)
 
-pub returns-in-Refused : goal.returns-in-Refused
+pub returns-in-Err : goal.returns-in-Err
 unfolding recounting
-returns-in-Refused c = rw (c.in-Refused.is, c.number.ensures, c.place.ensures, c.none.ensures)
+returns-in-Err c = rw (c.in-Err.is, c.number.ensures, c.place.ensures, c.none.ensures)

@@ -2,10 +2,10 @@
 use Rattle.row.specs.Answers.{number}
 use Rattle.row.proofs.number.Goals as goal
 
-pub returns-in-Buckets : goal.returns-in-Buckets
+pub returns-in-Ok : goal.returns-in-Ok
 unfolding number
-returns-in-Buckets c = rw c.in-Buckets.is
+returns-in-Ok c = rw c.in-Ok.is
 
-pub returns-in-Refused : goal.returns-in-Refused
+pub returns-in-Err : goal.returns-in-Err
 unfolding number
-returns-in-Refused c = rw c.in-Refused.is
+returns-in-Err c = rw c.in-Err.is

@@ -19,7 +19,7 @@ within : (c : In-loop-i) → c.loop-i.i < length c.args.out.now
 within c = omega (arith, here c, number_fits c.args.trace.state c.args.room.now (length c.args.out.now))
 
 pub loop-i-init : goal.loop-i-init
-loop-i-init c = (omega arith, none_yet c.args.room.now c.args.out.now)
+loop-i-init c = none_yet c.args.room.now c.args.out.now
 
 pub read-requires : goal.read-requires
 read-requires c = readable c.args.trace.state c.args.room.now (length c.args.out.now) c.loop-i.i (here (goal.at.read-requires c).In-loop-i)
@@ -30,16 +30,16 @@ offset_bounds-out-i c = let w = within (goal.at.offset_bounds-out-i c).In-loop-i
 pub bounds-out-i : goal.bounds-out-i
 bounds-out-i c =
     let w = within (goal.at.bounds-out-i c).In-loop-i in
-    rw c.loop-i.invariant.1 (omega (arith, w, as_long c.args.room.now c.loop-i.i c.args.out.now (omega arith)))
+    rw c.loop-i.invariant (omega (arith, w, as_long c.args.room.now c.loop-i.i c.args.out.now (omega arith)))
 
 pub loop-i-preserved : goal.loop-i-preserved
 loop-i-preserved c =
     let w = within (goal.at.loop-i-preserved c).In-loop-i in
-    (omega (arith, c.loop-i-test.true), rw (c.loop-i.invariant.1, c.read.ensures) (one_more c.args.room.now c.loop-i.i c.args.out.now w))
+    rw (c.loop-i.invariant, c.read.ensures) (one_more c.args.room.now c.loop-i.i c.args.out.now w)
 
 pub returns : goal.returns
 returns c =
     let a = c.args in
     let n : c.number-n.result ≡ number (row_answer a.trace.state a.room.now (length a.out.now)) = c.number-n.ensures ∙ ap number c.written-a.ensures in
-    let all : c.loop-i.i ≡ number (row_answer a.trace.state a.room.now (length a.out.now)) = omega (arith, n, c.loop-i.invariant.0, c.loop-i-test.false) in
-    rw (c.written-a.ensures, c.loop-i.invariant.1, all) (all_written a.trace.state a.room.now a.out.now)
+    let all : c.loop-i.i ≡ number (row_answer a.trace.state a.room.now (length a.out.now)) = omega (arith, n) in
+    rw (c.written-a.ensures, c.loop-i.invariant, all) (all_written a.trace.state a.room.now a.out.now)

@@ -11,37 +11,31 @@ use Rattle.saved.proofs.save_slots.Goals as goal
 
 pub loop-i-init : goal.loop-i-init
 unfolding saved slots
-loop-i-init c = (omega arith, refl)
+loop-i-init c = refl
 
 pub write-requires : goal.write-requires
 write-requires c =
     let a = c.args in
     let loop = c.loop-i in
-    omega (arith, saved_length a.room.now a.out.now loop.i loop.out (omega arith) loop.invariant.1)
+    omega (arith, saved_length a.room.now a.out.now loop.i loop.out (omega arith) loop.invariant)
 
 pub loop-i-preserved : goal.loop-i-preserved
 loop-i-preserved c =
     let loop = c.loop-i in
     let a = c.args in
-    (omega arith, rw (c.write.ensures, c.read.ensures, loop.invariant.1, add-one loop.i) (saved_next a.room.now a.out.now loop.i))
+    rw (c.write.ensures, c.read.ensures, loop.invariant, add-one loop.i) (saved_next a.room.now a.out.now loop.i)
 
 pub shape_of-out : goal.shape_of-out
 shape_of-out c =
     let a = c.args in
     let loop = c.loop-i in
-    saved_length a.room.now a.out.now loop.i loop.out (omega arith) loop.invariant.1
+    saved_length a.room.now a.out.now loop.i loop.out (omega arith) loop.invariant
 
 pub returns : goal.returns
 returns c =
     let a = c.args in
     let all : c.loop-i.i ≡ a.used = omega arith in
-    c.loop-i.invariant.1 ∙ ap (saved_up_to a.room.now a.out.now) all
+    c.loop-i.invariant ∙ ap (saved_up_to a.room.now a.out.now) all
 
 pub read-requires : goal.read-requires
 read-requires c = filled c.requires.0 c.loop-i.i (omega arith)
-
-pub overflow_add-i : goal.overflow_add-i
-overflow_add-i c = omega arith
-
-pub loop-i-smaller : goal.loop-i-smaller
-loop-i-smaller c = omega arith

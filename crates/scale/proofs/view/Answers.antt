@@ -1,5 +1,4 @@
 -- `scale::view` meets its contract: the levels seen so far and those that are left make the whole.
-use Prim.Native.Nat.{◌-◌}
 use native.Mathlib.Omega.{arith}
 use mathlib.Core.Path.{◌≡◌, sym}
 use mir.Syntax.{w32}
@@ -54,9 +53,3 @@ read-last-requires c = filled c.requires.0 _ (omega (arith, c.if-used-eq0.false)
 
 pub read-requires : goal.read-requires
 read-requires c = filled c.requires.0 c.loop-i.i (omega arith)
-
-pub overflow_add-i : goal.overflow_add-i
-overflow_add-i c = omega (arith, c.loop-i-test.true)
-
-pub loop-i-smaller : goal.loop-i-smaller
-loop-i-smaller c = omega (arith, c.loop-i-test.true)

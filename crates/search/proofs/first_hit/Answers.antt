@@ -1,5 +1,4 @@
 -- `search::first_hit` meets its contract: while none that was passed is over, what is found from here on is what is found in all.
-use Prim.Native.Nat.{◌-◌}
 use mathlib.Core.Path.{◌≡◌, sym}
 use mathlib.Core.Bool.{Bool}
 use native.Mathlib.Omega.{arith}
@@ -42,9 +41,3 @@ returns c =
 
 pub loop-i-init : goal.loop-i-init
 loop-i-init c = let a = c.args in passed_start a.first a.last (to_z w32 (of_z w32 a.bar)) a.room.now a.used
-
-pub overflow_add-i : goal.overflow_add-i
-overflow_add-i c = omega arith
-
-pub loop-i-smaller : goal.loop-i-smaller
-loop-i-smaller c = omega arith

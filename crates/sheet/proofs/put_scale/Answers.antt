@@ -4,7 +4,6 @@ use mathlib.Core.Path.{◌≡◌, ap, ◌∙◌}
 use mathlib.Core.List.{[], ◌∷◌}
 use native.Mathlib.Omega.{arith}
 use borrow.Author.Rules.{sfits_of}
-use lib.IntN.{pos}
 use lib.ListN.{length}
 use mir.Syntax.{w32, w64}
 use mir.Val.{of_z, to_z}
@@ -12,7 +11,7 @@ use mir.Facts.{to_z_pos}
 use Rattle.rule.proofs.Signed.{read, widened, widens}
 use Rattle.output.specs.Output.{filled}
 use Rattle.drawing.specs.Picture.{scale, scale_text}
-use Rattle.sheet.proofs.Pieces.{text_empty, scale_none, scale_some}
+use Rattle.sheet.proofs.Pieces.{scale_none, scale_some}
 use Rattle.sheet.proofs.put_scale.Goals.{After-struct_known-4-1}
 use Rattle.sheet.proofs.put_scale.Goals as goal
 
@@ -37,10 +36,10 @@ text c =
     (to_z_pos w64 last)
 
 pub put_text-requires : goal.put_text-requires
-put_text-requires c = rw (text_empty (pos 0 ∷ [])) (omega (arith, ap length (scale_none c.args.used c.args.v c.if-used-eq0.true), c.requires.1.1.1))
+put_text-requires c = omega (arith, ap length (scale_none c.args.used c.args.v c.if-used-eq0.true), c.requires.1.1.1)
 
 pub returns-then-used-eq0 : goal.returns-then-used-eq0
-returns-then-used-eq0 c = rw (scale_none c.args.used c.args.v c.if-used-eq0.true) (rw (text_empty (pos 0 ∷ [])) at c.put_text.ensures)
+returns-then-used-eq0 c = rw (scale_none c.args.used c.args.v c.if-used-eq0.true) c.put_text.ensures
 
 pub overflow_cast-numbers : goal.overflow_cast-numbers
 overflow_cast-numbers c = widens {w = w32} w64 {z = c.args.v.top} tt (sfits_of c.struct_told-3-1.given.1.1.0.1)

@@ -1,10 +1,6 @@
-use Prim.Native.Nat.{◌-◌, ◌≤◌}
 use Rattle.rule.specs.Room.{slots}
 use Rattle.notation.specs.Printing.{Printed, rows}
 use Rattle.showing.proofs.rows.Given as goal
 
 abbrev pub invariant-loop-done : goal.invariant-loop-done
-invariant-loop-done l = (l.done ≤ l.used) × Printed l.initial.out 0 (rows (slots l.room 0 l.done)) l.at l.out
-
-abbrev pub decreases-loop-done : goal.decreases-loop-done
-decreases-loop-done l = l.used - l.done
+invariant-loop-done l = Printed l.initial.out 0 (rows (slots l.room 0 l.done)) l.at l.out

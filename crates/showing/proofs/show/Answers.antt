@@ -6,16 +6,16 @@ use Rattle.showing.proofs.show.Goals as goal
 
 pub listed-requires : goal.listed-requires
 unfolding Showable
-listed-requires c = rw c.in-Accepted.is at c.requires
+listed-requires c = rw c.in-Ok.is at c.requires
 
 pub put_refused-requires : goal.put_refused-requires
 unfolding Showable
-put_refused-requires c = rw c.in-Refused.is at c.requires
+put_refused-requires c = rw c.in-Err.is at c.requires
 
-pub returns-in-Accepted : goal.returns-in-Accepted
+pub returns-in-Ok : goal.returns-in-Ok
 unfolding shown
-returns-in-Accepted c = rw c.in-Accepted.is c.listed.ensures
+returns-in-Ok c = rw c.in-Ok.is c.listed.ensures
 
-pub returns-in-Refused : goal.returns-in-Refused
+pub returns-in-Err : goal.returns-in-Err
 unfolding shown
-returns-in-Refused c = rw (c.in-Refused.is, sym c.number.ensures) c.put_refused.ensures
+returns-in-Err c = rw (c.in-Err.is, sym c.number.ensures) c.put_refused.ensures

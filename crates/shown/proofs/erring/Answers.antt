@@ -2,10 +2,10 @@
 use Rattle.plain.specs.Plain.{erring}
 use Rattle.shown.proofs.erring.Goals as goal
 
-pub returns-in-Error : goal.returns-in-Error
+pub returns-in-Ok : goal.returns-in-Ok
 unfolding erring
-returns-in-Error c = rw c.in-Error.is
+returns-in-Ok c = rw c.in-Ok.is
 
-pub returns-in-Refused : goal.returns-in-Refused
+pub returns-in-Err : goal.returns-in-Err
 unfolding erring
-returns-in-Refused c = rw (c.in-Refused.is, c.number.ensures, c.place.ensures)
+returns-in-Err c = rw (c.in-Err.is, c.number.ensures, c.place.ensures)

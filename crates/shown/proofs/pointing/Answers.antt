@@ -2,14 +2,14 @@
 use Rattle.plain.specs.Plain.{pointing}
 use Rattle.shown.proofs.pointing.Goals as goal
 
-pub returns-in-At : goal.returns-in-At
+pub returns-in-Ok-Some : goal.returns-in-Ok-Some
 unfolding pointing
-returns-in-At c = rw c.in-At.is
+returns-in-Ok-Some c = let e = rw c.in-Ok-Some.is at c.in-Ok-Some.field-0-is in rw (c.in-Ok-Some.is, e)
 
-pub returns-in-Nowhere : goal.returns-in-Nowhere
+pub returns-in-Ok-None : goal.returns-in-Ok-None
 unfolding pointing
-returns-in-Nowhere c = rw c.in-Nowhere.is
+returns-in-Ok-None c = let e = rw c.in-Ok-None.is at c.in-Ok-None.field-0-is in rw (c.in-Ok-None.is, e)
 
-pub returns-in-Refused : goal.returns-in-Refused
+pub returns-in-Err : goal.returns-in-Err
 unfolding pointing
-returns-in-Refused c = rw (c.in-Refused.is, c.number.ensures, c.place.ensures)
+returns-in-Err c = rw (c.in-Err.is, c.number.ensures, c.place.ensures)

@@ -4,12 +4,12 @@ use Rattle.rule.proofs.Signed.{read}
 use Rattle.plain.specs.Plain.{showing}
 use Rattle.shown.proofs.showing.Goals as goal
 
-pub returns-in-Level : goal.returns-in-Level
+pub returns-in-Ok : goal.returns-in-Ok
 unfolding showing
-returns-in-Level c =
-    let k = c.in-Level.known_told-1-own.given in
-    rw (c.in-Level.is, read w32 c.in-Level.level k.0.1, read w32 c.in-Level.least k.1.1.0.1, read w32 c.in-Level.largest k.1.1.1.0.1)
+returns-in-Ok c =
+    let f = c.in-Ok.field-0 in
+    rw (c.in-Ok.is, read w32 f.level c.in-Ok.level-1-own.given, read w32 f.least c.in-Ok.least-1-own.given, read w32 f.largest c.in-Ok.largest-1-own.given)
 
-pub returns-in-Refused : goal.returns-in-Refused
+pub returns-in-Err : goal.returns-in-Err
 unfolding showing
-returns-in-Refused c = rw (c.in-Refused.is, c.number.ensures, c.place.ensures)
+returns-in-Err c = rw (c.in-Err.is, c.number.ensures, c.place.ensures)

@@ -10,4 +10,4 @@ returns-in_default c =
 pub returns : goal.returns
 returns c =
     let a = c.args in
-    drawn_printed a.t.state a.room.now a.caption.now a.out.now c.requires.0 c.requires.1.0 c.requires.1.1 _ _ c.picture-d.ensures _ c.in-Bytes.is
+    drawn_printed a.t.state a.room.now a.caption.now a.out.now c.requires.0 c.requires.1.0 c.requires.1.1 _ _ c.picture-d.ensures _ c.in-Ok.is

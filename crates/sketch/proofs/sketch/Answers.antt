@@ -22,20 +22,20 @@ good c = flipped c.caption_good.ensures c.if-not-caption_good.false-raw
 pub drawn-requires : goal.drawn-requires
 unfolding Drawable
 drawn-requires c =
-    (rw c.in-Accepted.is at c.requires.0, (good (goal.at.drawn-requires c).Else-not-caption_good, c.requires.1))
+    (rw c.in-Ok.is at c.requires.0, (good (goal.at.drawn-requires c).Else-not-caption_good, c.requires.1))
 
-pub returns-in-Accepted : goal.returns-in-Accepted
+pub returns-in-Ok : goal.returns-in-Ok
 unfolding sketched drawn
-returns-in-Accepted c = rw (good (goal.at.returns-in-Accepted c).Else-not-caption_good, c.in-Accepted.is) c.drawn.ensures
+returns-in-Ok c = rw (good (goal.at.returns-in-Ok c).Else-not-caption_good, c.in-Ok.is) c.drawn.ensures
 
-pub returns-in-Refused : goal.returns-in-Refused
+pub returns-in-Err : goal.returns-in-Err
 unfolding sketched drawn
-returns-in-Refused c =
-    rw (good (goal.at.returns-in-Refused c).Else-not-caption_good, c.in-Refused.is, sym c.number-in-Refused.ensures)
-    c.put_refused-in-Refused.ensures
+returns-in-Err c =
+    rw (good (goal.at.returns-in-Err c).Else-not-caption_good, c.in-Err.is, sym c.number-in-Err.ensures)
+    c.put_refused-in-Err.ensures
 
 pub put_refused-requires : goal.put_refused-requires
 put_refused-requires c = omega (arith, c.requires.1)
 
-pub put_refused-requires-in-Refused : goal.put_refused-requires-in-Refused
-put_refused-requires-in-Refused c = omega (arith, c.requires.1)
+pub put_refused-requires-in-Err : goal.put_refused-requires-in-Err
+put_refused-requires-in-Err c = omega (arith, c.requires.1)

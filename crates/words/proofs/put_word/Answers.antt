@@ -1,21 +1,18 @@
--- `words::put_word` meets its contract: four stores, each of a byte.
-use lib.ListN.{length-set}
-use native.Mathlib.Numerals.{add-one, add-two, add-three}
+-- `words::put_word` meets its contract: four bytes laid over four.
+use Prim.Native.Nat.{◌+◌}
+use mathlib.Core.Path.{sym, ◌∙◌}
+use lib.ListN.{take, drop}
+use Rattle.std.proofs.Common.{append_assoc}
 use native.Mathlib.Omega.{arith}
+use borrow.Rule.Slice.PartMut.{Post-is}
+use Rattle.std.proofs.lemmas.List.Edits.{sets-eq}
 use Rattle.rule.specs.Bytes.{bytes}
 use Rattle.words.proofs.put_word.Goals as goal
 
 pub returns : goal.returns
 unfolding bytes
 returns c =
-    simp
-    (c.low.ensures, c.low-2.ensures, c.low-3.ensures, c.low-4.ensures, add-one, add-two, add-three)
-
-pub bounds-out-at-2 : goal.bounds-out-at-2
-bounds-out-at-2 c = simp length-set (omega arith)
-
-pub bounds-out-at-3 : goal.bounds-out-at-3
-bounds-out-at-3 c = simp length-set (omega arith)
-
-pub bounds-out-at-4 : goal.bounds-out-at-4
-bounds-out-at-4 c = simp length-set (omega arith)
+    let a = c.args in
+    let l = a.out.now in
+    rw (c.copy_from_slice.ensures.after, c.to_le_bytes.ensures, Post-is a.at (a.at + 4) l (omega arith))
+    (sym (sets-eq (bytes a.x) l a.at c.requires ∙ append_assoc (take a.at l) (bytes a.x) (drop (a.at + 4) l)))

@@ -1,0 +1,2 @@
+-- What is said of a run that is not whole.
+pub mod Words

@@ -32,17 +32,20 @@ pub fn first_fault(kind: Kind, file: &[u8]) -> usize
 {
     let n = file.len() / RECORD;
     let mut end = 0;
-    let bad = 'records: {
-        for i in 0..n {
-            let b = read(file, i);
-            for rule in 1..=RULES {
-                if !meets(rule, kind, end, b) {
-                    break 'records i;
-                }
-            }
-            end = bucket::end(b);
+    let mut i = 0;
+    // A labelled loop that yields the index, as document 01 names it: a `for` yields nothing.
+    let bad = 'records: loop {
+        if n <= i {
+            break 'records n;
         }
-        n
+        let b = read(file, i);
+        for rule in 1..=RULES {
+            if !meets(rule, kind, end, b) {
+                break 'records i;
+            }
+        }
+        end = bucket::end(b);
+        i += 1;
     };
     bad
 }

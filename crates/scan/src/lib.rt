@@ -14,7 +14,7 @@ use rule::{Bucket, WORD};
 use slots::read;
 
 // Above every spread.
-const ABOVE: u64 = WORD as u64;
+pub const ABOVE: u64 = WORD as u64;
 
 // The cheapest neighbours met so far: the place of the first of the two, the spread of their union, above every spread where none were met, and what decides among equal spreads.
 // None met is a cost and no `Option`: one comparison of costs covers both.

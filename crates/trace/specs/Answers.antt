@@ -1,4 +1,4 @@
--- The answer enum of open, load and the two readings: document 01's verdict, case by case.
+-- What open, load and the two readings answer: document 01's verdict, case by case.
 use Rattle.std.specs.Prelude.{List, ℤ, Ok, Err}
 use Rattle.rule.specs.declared.State.{State}
 use Rattle.rule.specs.Calls.{Verdict}

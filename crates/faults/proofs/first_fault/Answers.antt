@@ -8,9 +8,9 @@ use Rattle.faults.proofs.first_fault.Goals as goal
 pub loop-rule-init : goal.loop-rule-init
 loop-rule-init c = none_asked _ _ _
 
-pub loop-i-preserved : goal.loop-i-preserved
-loop-i-preserved c =
-    let here = c.loop-i in
+pub records-preserved : goal.records-preserved
+records-preserved c =
+    let here = c.records in
     let read = c.read-b in
     rw c.end-end.ensures
     (sym
@@ -21,7 +21,7 @@ loop-i-preserved c =
 pub returns-then-not-meets : goal.returns-then-not-meets
 returns-then-not-meets c =
     let a = c.args in
-    let here = c.loop-i in
+    let here = c.records in
     let read = c.read-b in
     sym
     (scan_fault a.kind a.file.now _ here.end here.i read.result read.ensures (omega arith) c.loop-rule.rule
@@ -29,9 +29,9 @@ returns-then-not-meets c =
     ∙ here.invariant
     ∙ scan_all a.kind a.file.now
 
-pub returns-after-loop-i : goal.returns-after-loop-i
-returns-after-loop-i c =
+pub returns-then-n-i : goal.returns-then-n-i
+returns-then-n-i c =
     let a = c.args in
-    sym (scan_done a.kind a.file.now _ c.loop-i.end c.loop-i.i (omega arith))
-    ∙ c.loop-i.invariant
+    sym (scan_done a.kind a.file.now _ c.records.end c.records.i (omega arith))
+    ∙ c.records.invariant
     ∙ scan_all a.kind a.file.now

@@ -28,10 +28,12 @@ fn refused(rt: &impl Print, refusal: Refusal) {
 
 fn state(rt: &impl Print, trace: Trace) {
     let f = fields_of(trace.state);
-    let _ = print!(rt;
-        " {} {} {} {} {} {} {}",
-        f.kind, f.base, f.gaps, f.used, f.runs, f.readings, f.edition
-    );
+    // Each by a write of its own: of what an output refuses the rest may still be taken.
+    for number in [
+        f.kind, f.base, f.gaps, f.used, f.runs, f.readings, f.edition,
+    ] {
+        unsigned(rt, number as u64);
+    }
 }
 
 // Where it is refused, the trace is the given one.
